@@ -8,6 +8,7 @@ pub mod journal;
 pub mod list;
 pub mod liveness;
 pub mod operation;
+pub mod order;
 pub mod sink;
 pub mod text;
 pub mod value;
