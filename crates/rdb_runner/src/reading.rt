@@ -38,7 +38,12 @@ impl From<AllocError> for Unread {
 }
 
 /// One file's bytes; `place` is its place among the names.
-fn read_one<F: Files>(alloc: Global, files: &mut F, name: &str, place: usize) -> Result<Bytes, Unread>
+fn read_one<F: Files>(
+    alloc: Global,
+    files: &mut F,
+    name: &str,
+    place: usize,
+) -> Result<Bytes, Unread>
     ensures answer { IsReadOf (sight_of F.told F.asked F.faults files.old files.new) name.now place result }
     ensures stays { (other : List ℕ) → F.told files.new other ≡ F.told files.old other }
 {

@@ -23,15 +23,15 @@ returns-in_err-bytes-clause-answer g c =
     let within : i < length names = omega arith in
     let all : List (List ℕ) = map (λ (n : Bor (List ℕ)). n.now) names in
     rw (p.1, p.2) (read_stops (sight_of g.F.Files.told g.F.Files.asked g.F.Files.faults c.loop-place.files c.read_one.new.files) (g.F.Files.told c.args.files.now) (g.F.Files.asked c.args.files.now) (g.F.Files.faults c.args.files.now) all c.loop-place.texts i (get_or names i nobody).now
-      (record {
-        told_same = c.loop-place.invariant.told;
-        texts_read = c.loop-place.invariant.texts;
-        asked_so_far = c.loop-place.invariant.asked;
-        faults_same = c.loop-place.invariant.faults;
-        there = named names i within;
-        inside = rw length-map within;
-        next = take_map_more (λ (n : Bor (List ℕ)). n.now) names i nobody within;
-      }) c.in_err-bytes.field-0.0 c.in_err-bytes.ensures.answer)
+    (record {
+      told_same = c.loop-place.invariant.told;
+      texts_read = c.loop-place.invariant.texts;
+      asked_so_far = c.loop-place.invariant.asked;
+      faults_same = c.loop-place.invariant.faults;
+      there = named names i within;
+      inside = rw length-map within;
+      next = take_map_more (λ (n : Bor (List ℕ)). n.now) names i nobody within;
+    }) c.in_err-bytes.field-0.0 c.in_err-bytes.ensures.answer)
 
 pub returns-in_err-push-clause-answer : goal.returns-in_err-push-clause-answer
 returns-in_err-push-clause-answer g c =
