@@ -3,6 +3,7 @@
 ghost use Rattle.std.specs.Prelude.{◌≡◌, ◌+◌, ◌<◌, ◌==◌, [], ◌∷◌, ◌++◌, length, IfOk, OnOk, OnErr, slice_get, Some};
 ghost use Rattle.std.specs.Cmp.Lexicographic.{pointwise, slice_cmp, slice_partial_cmp, lists_equiv, lists_agrees, lists_total, lists_ties, lists_per, lists_po};
 
+use crate::duplicate::Duplicate;
 use std::alloc::{AllocError, Global};
 use std::cmp::Ordering;
 use std::marker::Model;
@@ -72,6 +73,26 @@ impl<T> List<T> {
         ensures { result.now ≡ self.now }
     {
         self.elements.as_slice()
+    }
+}
+
+impl<T: Duplicate + Drop> List<T> {
+    /// An equal list, with copies of its elements. The cost grows with all that they hold; the list takes one allocation.
+    pub fn copy(&self) -> Result<List<T>, NoMemory>
+        ensures { IfOk result (λ copy. copy ≡ self.now) }
+    {
+        let elements = self.elements.as_slice();
+        let mut copies = Vec::with_capacity(*self.elements.allocator(), elements.len())?;
+        for element in elements {
+            copies.push(element.duplicate()?)?;
+        }
+        Ok(List { elements: copies })
+    }
+}
+
+impl<T: Duplicate + Drop> Duplicate for List<T> {
+    fn duplicate(&self) -> Result<List<T>, NoMemory> {
+        self.copy()
     }
 }
 
