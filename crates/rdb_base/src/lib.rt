@@ -3,6 +3,7 @@
 
 pub mod duplicate;
 pub mod files;
+pub mod folder;
 pub mod gate;
 pub mod identity;
 pub mod journal;

@@ -11,6 +11,8 @@ use std::marker::Model;
 /// Want of memory: the one answer that every call which allocates may give.
 pub type NoMemory = AllocError;
 
+pub type Numbers = List<u32>;
+
 /// A growing list that keeps its allocator. Contracts see it as the list of its elements.
 #[derive(Debug, Drop)]
 pub struct List<T> {
@@ -73,6 +75,25 @@ impl<T> List<T> {
         ensures { result.now ≡ self.now }
     {
         self.elements.as_slice()
+    }
+}
+
+impl<T: Copy> List<T> {
+    /// A list of copies of the elements. The cost grows with their number; it takes one allocation.
+    pub fn from_slice(alloc: Global, elements: &[T]) -> Result<List<T>, NoMemory>
+        ensures { IfOk result (λ list. list ≡ elements.now) }
+    {
+        Ok(List {
+            elements: Vec::from_slice(alloc, elements)?,
+        })
+    }
+
+    /// Appends copies of the elements, all or none. The cost grows with their number, and spread over many calls not with the list.
+    pub fn extend_from_slice(&mut self, elements: &[T]) -> Result<(), NoMemory>
+        ensures ok { OnOk result (self.new ≡ self.old ++ elements.now) }
+        ensures err { OnErr result (self.new ≡ self.old) }
+    {
+        self.elements.extend_from_slice(elements)
     }
 }
 
