@@ -10,6 +10,7 @@ pub mod journal;
 pub mod list;
 pub mod listed_deaths;
 pub mod liveness;
+pub mod memory_files;
 pub mod operation;
 pub mod order;
 pub mod sink;
