@@ -20,6 +20,17 @@ pub enum ReadFault {
     NoMemory,
 }
 
+impl From<NoMemory> for ReadFault {
+    ghost use Rattle.std.specs.Prelude.{◌≡◌};
+    ghost use Rattle.rdb_base.specs.declared.files.ReadFault.TheVariants as faults;
+
+    ghost from_gives = { λ _ fault. fault ≡ faults.NoMemory };
+
+    fn from(_error: NoMemory) -> ReadFault {
+        ReadFault::NoMemory
+    }
+}
+
 /// Reads files by their names.
 pub trait Files {
     /// The bytes of the file of a name, where it tells them.

@@ -3,12 +3,15 @@
 ghost use Rattle.std.specs.Prelude.{◌≡◌, ◌+◌, ◌<◌, ◌==◌, [], ◌∷◌, ◌++◌, length, IfOk, OnOk, OnErr, slice_get, Some};
 ghost use Rattle.std.specs.Cmp.Lexicographic.{pointwise, slice_cmp, slice_partial_cmp, lists_equiv, lists_agrees, lists_total, lists_ties, lists_per, lists_po};
 
+use crate::duplicate::Duplicate;
 use std::alloc::{AllocError, Global};
 use std::cmp::Ordering;
 use std::marker::Model;
 
 /// Want of memory: the one answer that every call which allocates may give.
 pub type NoMemory = AllocError;
+
+pub type Numbers = List<u32>;
 
 /// A growing list that keeps its allocator. Contracts see it as the list of its elements.
 #[derive(Debug, Drop)]
@@ -72,6 +75,45 @@ impl<T> List<T> {
         ensures { result.now ≡ self.now }
     {
         self.elements.as_slice()
+    }
+}
+
+impl<T: Copy> List<T> {
+    /// A list of copies of the elements. The cost grows with their number; it takes one allocation.
+    pub fn from_slice(alloc: Global, elements: &[T]) -> Result<List<T>, NoMemory>
+        ensures { IfOk result (λ list. list ≡ elements.now) }
+    {
+        Ok(List {
+            elements: Vec::from_slice(alloc, elements)?,
+        })
+    }
+
+    /// Appends copies of the elements, all or none. The cost grows with their number, and spread over many calls not with the list.
+    pub fn extend_from_slice(&mut self, elements: &[T]) -> Result<(), NoMemory>
+        ensures ok { OnOk result (self.new ≡ self.old ++ elements.now) }
+        ensures err { OnErr result (self.new ≡ self.old) }
+    {
+        self.elements.extend_from_slice(elements)
+    }
+}
+
+impl<T: Duplicate + Drop> List<T> {
+    /// An equal list, with copies of its elements. The cost grows with all that they hold; the list takes one allocation.
+    pub fn copy(&self) -> Result<List<T>, NoMemory>
+        ensures { IfOk result (λ copy. copy ≡ self.now) }
+    {
+        let elements = self.elements.as_slice();
+        let mut copies = Vec::with_capacity(*self.elements.allocator(), elements.len())?;
+        for element in elements {
+            copies.push(element.duplicate()?)?;
+        }
+        Ok(List { elements: copies })
+    }
+}
+
+impl<T: Duplicate + Drop> Duplicate for List<T> {
+    fn duplicate(&self) -> Result<List<T>, NoMemory> {
+        self.copy()
     }
 }
 
