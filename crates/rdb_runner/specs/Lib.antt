@@ -1,3 +1,5 @@
 pub mod Decimal
 pub mod PlainClient
+pub mod PlainSchedule
+pub mod PlainSchema
 pub mod Reading

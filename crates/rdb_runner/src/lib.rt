@@ -4,4 +4,6 @@
 mod decimal;
 mod front;
 mod plain_client;
+mod plain_schedule;
+mod plain_schema;
 pub mod reading;
