@@ -82,7 +82,7 @@ fn is_listed(numbers: &Numbers, number: u64) -> bool
 }
 
 /// What a read of these bytes answers. The cost grows with the bytes.
-pub fn read_bytes(alloc: Global, bytes: &[u8], budget: u64) -> Result<Result<Bytes, ReadFault>, NoMemory>
+pub(crate) fn read_bytes(alloc: Global, bytes: &[u8], budget: u64) -> Result<Result<Bytes, ReadFault>, NoMemory>
     ensures { IfOk result (λ answer. answer ≡ read_of bytes.now budget) }
 {
     if bytes.len() as u64 <= budget {
