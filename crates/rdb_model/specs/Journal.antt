@@ -1,0 +1,1 @@
+pub use Rattle.rdb_model.specs.Story.{run}

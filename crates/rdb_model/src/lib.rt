@@ -1,0 +1,4 @@
+//! The plain database and the law of journals: what every answer of the product is measured by.
+#![tactic(auto)]
+
+pub mod objects;
