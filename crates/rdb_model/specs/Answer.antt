@@ -1,6 +1,6 @@
 -- The plain answer: what an operation is told, and the database after it.
-use Rattle.std.specs.Prelude.{ℕ, ◌+◌, Bool, true, false, ◌&&◌, List, [], ◌∷◌, length, map, reverse, max, Option, Some, None, if◌then◌else◌, is_none, nat_eq, ◌==◌, int_le}
-use Rattle.std.specs.List.{filter, find, fold, starts_with}
+use Rattle.std.specs.Prelude.{ℕ, ◌+◌, Bool, true, false, ◌&&◌, List, [], ◌∷◌, length, map, max, Option, Some, None, if◌then◌else◌, is_none, nat_eq, ◌==◌, int_le}
+use Rattle.std.specs.List.{filter, find, starts_with}
 use Rattle.std.specs.Option.{option_map, option_map_or, option_or}
 use Rattle.std.specs.Ordering.{is_lt, is_gt}
 
@@ -50,10 +50,15 @@ is_before place.Start pair = false
 is_before place.End pair = true
 is_before (place.At wanted id) pair = is_gt (pair_order (wanted, id) pair)
 
+-- the last element that passes a test
+abbrev pub find_last : {A : Type 0} → (A → Bool) → List A → Option A
+find_last passes [] = None
+find_last passes (x ∷ xs) = option_or (find_last passes xs) (if passes x then Some x else None)
+
 -- the first pair after the place, or the last one before it
 abbrev pub sought : Place → Bool → List (Row × ℕ) → Option (Row × ℕ)
 sought from true pairs = find (is_after from) pairs
-sought from false pairs = find (is_before from) (reverse pairs)
+sought from false pairs = find_last (is_before from) pairs
 
 -- whether two boxes have a point in common, edges included
 abbrev pub overlaps : Rect → Rect → Bool
@@ -65,20 +70,24 @@ lies_in a b = int_le b.x1 a.x1 && int_le a.x2 b.x2 && int_le b.y1 a.y1 && int_le
 
 -- whether a key is a box that lies in the other, or that overlaps it
 abbrev pub meets : Rect → Bool → Row → Bool
-meets rect inside (value.Leaf (leaf.Rect box) ∷ []) = if inside then lies_in box rect else overlaps box rect
+meets rect inside (value.Leaf (leaf.Rect box) ∷ _) = if inside then lies_in box rect else overlaps box rect
 meets rect inside _ = false
 
--- the words of a key of one text
-abbrev pub words_of : Row → List ℕ
-words_of (value.Leaf (leaf.Text words) ∷ []) = words
-words_of _ = []
+-- the words of a key that is a text
+abbrev pub words_of : Row → Option (List ℕ)
+words_of (value.Leaf (leaf.Text words) ∷ _) = Some words
+words_of _ = None
+
+-- the length of the words, if they are a prefix of the text
+abbrev pub prefix_length : List ℕ → List ℕ → ℕ
+prefix_length text words = if starts_with nat_eq text words then length words else 0
 
 -- the length of the longest key that is a prefix of the text
 abbrev pub longest_prefix : List ℕ → List ℕ → Objects → ℕ
-longest_prefix fields text objects =
-    fold max 0 (map (λ o. length (words_of (key fields o.1))) (filter (λ o. starts_with nat_eq text (words_of (key fields o.1))) objects))
+longest_prefix fields text [] = 0
+longest_prefix fields text (o ∷ os) = max (option_map_or (prefix_length text) (words_of (key fields o.1)) 0) (longest_prefix fields text os)
 
--- whether a key equals the text; is its longest prefix, of that length; or begins with it
+-- whether words equal the text; are its prefix of that length; or begin with it
 abbrev pub is_found : How → List ℕ → ℕ → List ℕ → Bool
 is_found how.Exact text longest words = starts_with nat_eq text words && (length words == length text)
 is_found how.Longest text longest words = starts_with nat_eq text words && (length words == longest)
@@ -106,5 +115,5 @@ answer schema db (op.Area class at rect inside) =
 answer schema db (op.Prefix class at text way) =
     let fields = fields_of schema class at in
     let objects = objects_of db class in
-    (reply.Ids (ids_where (λ row. is_found way text (longest_prefix fields text objects) (words_of (key fields row))) objects), db)
+    (reply.Ids (ids_where (λ row. option_map_or (is_found way text (longest_prefix fields text objects)) (words_of (key fields row)) false) objects), db)
 answer schema db (op.Count class) = (reply.Count (length (objects_of db class)), db)

@@ -5,3 +5,5 @@ pub mod Answer
 pub mod Story
 pub mod Journal
 pub mod Touch
+pub mod Serial
+pub mod Fits

@@ -1,5 +1,5 @@
 -- The object at the place that was found goes.
-use Rattle.std.proofs.Common.{sym, subst, arith}
+use Rattle.std.proofs.Common.{sym, subst}
 use Rattle.rdb_model.specs.Database.{IsAscending}
 use Rattle.rdb_model.proofs.ObjectsLemmas.{without_at, without_absent, none_at_gap}
 use Rattle.rdb_model.proofs.objects.Objects.remove.Goals as goal
@@ -10,4 +10,4 @@ returns-in-Ok c =
     rw (c.remove.ensures.items, c.self.view_is) (sym (without_at c.args.self.now c.args.id c.in-Ok.place c.in-Ok.ensures.found ascending))
 
 pub returns-in_default : goal.returns-in_default
-returns-in_default c = ?
+returns-in_default c = sym (without_absent c.args.self.now c.args.id (none_at_gap c.args.self.now c.args.id _ c.in_default.ensures.absent))
