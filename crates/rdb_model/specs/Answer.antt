@@ -1,9 +1,8 @@
 -- The plain answer: what an operation is told, and the database after it.
-use Rattle.std.specs.Prelude.{ℕ, ◌+◌, Bool, true, false, ◌&&◌, List, [], ◌∷◌, length, map, max, Option, Some, None, if◌then◌else◌, is_none, nat_eq, ◌==◌, int_le}
+use Rattle.std.specs.Prelude.{ℕ, ℤ, ◌+◌, Bool, true, false, ◌&&◌, List, [], ◌∷◌, length, map, max, Option, Some, None, if◌then◌else◌, is_none, nat_eq, ◌==◌, int_le}
 use Rattle.std.specs.List.{filter, find, starts_with}
 use Rattle.std.specs.Option.{option_map, option_map_or, option_or}
 use Rattle.std.specs.Ordering.{is_lt, is_gt}
-
 use Rattle.rdb_base.specs.declared.value.Rect.{Rect}
 use Rattle.rdb_base.specs.declared.value.Leaf.TheVariants as leaf
 use Rattle.rdb_base.specs.declared.value.Value.TheVariants as value
@@ -60,13 +59,21 @@ abbrev pub sought : Place → Bool → List (Row × ℕ) → Option (Row × ℕ)
 sought from true pairs = find (is_after from) pairs
 sought from false pairs = find_last (is_before from) pairs
 
+-- whether two spans have a number in common, ends included
+abbrev pub spans_meet : ℤ → ℤ → ℤ → ℤ → Bool
+spans_meet from to other_from other_to = int_le from other_to && int_le other_from to
+
+-- whether the first span lies in the second
+abbrev pub span_lies_in : ℤ → ℤ → ℤ → ℤ → Bool
+span_lies_in from to other_from other_to = int_le other_from from && int_le to other_to
+
 -- whether two boxes have a point in common, edges included
 abbrev pub overlaps : Rect → Rect → Bool
-overlaps a b = int_le a.x1 b.x2 && int_le b.x1 a.x2 && int_le a.y1 b.y2 && int_le b.y1 a.y2
+overlaps a b = spans_meet a.x1 a.x2 b.x1 b.x2 && spans_meet a.y1 a.y2 b.y1 b.y2
 
--- whether the first box lies in the second, edges included
+-- whether the first box lies in the second
 abbrev pub lies_in : Rect → Rect → Bool
-lies_in a b = int_le b.x1 a.x1 && int_le a.x2 b.x2 && int_le b.y1 a.y1 && int_le a.y2 b.y2
+lies_in a b = span_lies_in a.x1 a.x2 b.x1 b.x2 && span_lies_in a.y1 a.y2 b.y1 b.y2
 
 -- whether a key is a box that lies in the other, or that overlaps it
 abbrev pub meets : Rect → Bool → Row → Bool
@@ -78,9 +85,13 @@ abbrev pub words_of : Row → Option (List ℕ)
 words_of (value.Leaf (leaf.Text words) ∷ _) = Some words
 words_of _ = None
 
+-- whether a text begins with another
+abbrev pub starts : List ℕ → List ℕ → Bool
+starts text start = starts_with nat_eq text start
+
 -- the length of the words, if they are a prefix of the text
 abbrev pub prefix_length : List ℕ → List ℕ → ℕ
-prefix_length text words = if starts_with nat_eq text words then length words else 0
+prefix_length text words = if starts text words then length words else 0
 
 -- the length of the longest key that is a prefix of the text
 abbrev pub longest_prefix : List ℕ → List ℕ → Objects → ℕ
@@ -89,9 +100,9 @@ longest_prefix fields text (o ∷ os) = max (option_map_or (prefix_length text) 
 
 -- whether words equal the text; are its prefix of that length; or begin with it
 abbrev pub is_found : How → List ℕ → ℕ → List ℕ → Bool
-is_found how.Exact text longest words = starts_with nat_eq text words && (length words == length text)
-is_found how.Longest text longest words = starts_with nat_eq text words && (length words == longest)
-is_found how.Starting text longest words = starts_with nat_eq words text
+is_found how.Exact text longest words = starts text words && (length words == length text)
+is_found how.Longest text longest words = starts text words && (length words == longest)
+is_found how.Starting text longest words = starts words text
 
 -- the answer to an operation
 abbrev pub answer : Schema → Database → Op → Reply × Database

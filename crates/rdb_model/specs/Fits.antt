@@ -1,5 +1,5 @@
 -- Which operations fit a schema, and which databases.
-use Rattle.std.specs.Prelude.{◌≡◌, ℕ, Bool, true, false, ◌&&◌, ◌||◌, nat_lt, nat_le, int_le, List, [], ◌∷◌, length, slice_get, IsTrue}
+use Rattle.std.specs.Prelude.{ℕ, Bool, true, false, ◌&&◌, ◌≤◌, nat_lt, nat_le, int_le, List, [], length, slice_get, IsTrue}
 use Rattle.std.specs.List.{filter_map}
 use Rattle.std.specs.Option.{option_map_or}
 use Rattle.rdb_base.specs.declared.identity.Kind.{Kind}
@@ -8,17 +8,12 @@ use Rattle.rdb_base.specs.declared.operation.Op.{Op}
 use Rattle.rdb_base.specs.declared.operation.Op.TheVariants as op
 use Rattle.rdb_base.specs.declared.operation.Place.{Place}
 use Rattle.rdb_base.specs.declared.operation.Place.TheVariants as place
-use Rattle.rdb_base.specs.declared.operation.Reply.{Reply}
-use Rattle.rdb_base.specs.declared.journal.Entry.{Entry}
-use Rattle.rdb_base.specs.declared.journal.Entry.TheVariants as entry
 use Rattle.rdb_schema.specs.declared.schema.Field.{Field}
 use Rattle.rdb_schema.specs.declared.schema.IndexKind.{IndexKind}
 use Rattle.rdb_schema.specs.declared.schema.IndexKind.TheVariants as index_kind
-use Rattle.rdb_schema.specs.declared.schema.IndexDecl.{IndexDecl}
-use Rattle.rdb_schema.specs.declared.schema.Class.{Class}
 use Rattle.rdb_schema.specs.declared.schema.Schema.{Schema}
 use Rattle.rdb_schema.specs.Values.{values_hold, row_holds, row_length}
-use Rattle.rdb_model.specs.Database.{Row, Database}
+use Rattle.rdb_model.specs.Database.{Row}
 use Rattle.rdb_model.specs.Index.{indexes_of, fields_of}
 
 -- whether a schema has a class of that number
@@ -86,3 +81,7 @@ fits schema (op.Count class) kind = has_class schema class
 -- that an operation fits
 abbrev pub Fits : Schema → Op → Kind → Type 0
 Fits schema op kind = IsTrue (fits schema op kind)
+
+-- that no class has more than eight indexes, as the rules of schemas have it
+abbrev pub HasFewIndexes : Schema → Type 0
+HasFewIndexes schema = (class : ℕ) → length (indexes_of schema class) ≤ 8

@@ -7,3 +7,4 @@ pub mod Journal
 pub mod Touch
 pub mod Serial
 pub mod Fits
+pub mod Others

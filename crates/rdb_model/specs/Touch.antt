@@ -1,6 +1,6 @@
 -- Which rows a reply rests on, and whether a commit touches an operation: backward validation (Kung and Robinson, 1981), on rows.
-use Rattle.std.specs.Prelude.{ℕ, Bool, true, false, ◌&&◌, ◌||◌, not, ◌==◌, nat_eq, List, [], ◌∷◌, Option, Some, None, if◌then◌else◌, slice_get}
-use Rattle.std.specs.List.{filter_map, list_any, starts_with}
+use Rattle.std.specs.Prelude.{ℕ, Bool, true, false, ◌&&◌, ◌||◌, not, ◌==◌, List, Option, Some, None}
+use Rattle.std.specs.List.{filter_map, list_any}
 use Rattle.std.specs.Option.{option_map_or}
 use Rattle.std.specs.Ordering.{is_lt, is_gt}
 use Rattle.rdb_base.specs.declared.operation.Op.{Op}
@@ -13,7 +13,7 @@ use Rattle.rdb_schema.specs.declared.schema.Schema.{Schema}
 use Rattle.rdb_schema.specs.declared.schema.IndexDecl.{IndexDecl}
 use Rattle.rdb_model.specs.Database.{Row, Database, objects_of, row_of}
 use Rattle.rdb_model.specs.Index.{indexes_of, fields_of, key, has_key, pair_order}
-use Rattle.rdb_model.specs.Answer.{is_after, is_before, meets, words_of}
+use Rattle.rdb_model.specs.Answer.{is_after, is_before, meets, words_of, starts}
 use Rattle.rdb_model.specs.Story.{after}
 
 -- whether a row has the key of the other in some unique index
@@ -31,9 +31,9 @@ down_to _ pair = true
 
 -- whether a key equals the text; is a prefix of it; or begins with it
 abbrev pub relates : How → List ℕ → List ℕ → Bool
-relates how.Exact text words = starts_with nat_eq text words && starts_with nat_eq words text
-relates how.Longest text words = starts_with nat_eq text words
-relates how.Starting text words = starts_with nat_eq words text
+relates how.Exact text words = starts text words && starts words text
+relates how.Longest text words = starts text words
+relates how.Starting text words = starts words text
 
 -- the class that an operation is of
 abbrev pub class_of : Op → ℕ

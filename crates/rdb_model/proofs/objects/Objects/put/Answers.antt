@@ -1,5 +1,5 @@
 -- The row is written over the one that the id had, or goes into the gap for it.
-use Rattle.std.proofs.Common.{sym, subst, arith}
+use Rattle.std.proofs.Common.{sym, subst}
 use Rattle.rdb_model.specs.Database.{IsAscending}
 use Rattle.rdb_model.proofs.ObjectsLemmas.{with_row_at, with_row_gap, smaller_before_at}
 use Rattle.rdb_model.proofs.objects.Objects.put.Goals as goal
