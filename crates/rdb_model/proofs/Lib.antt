@@ -1,0 +1,3 @@
+pub mod ObjectsLemmas
+pub mod KeysLemmas
+pub mod ClashLemmas
