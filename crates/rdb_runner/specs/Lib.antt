@@ -1,5 +1,6 @@
 pub mod Decimal
 pub mod PlainClient
+pub mod PlainReport
 pub mod PlainSchedule
 pub mod PlainSchema
 pub mod Reading

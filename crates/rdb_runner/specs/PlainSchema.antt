@@ -16,7 +16,8 @@ reserved =
     ∷ codes "uint1" ∷ codes "uint2" ∷ codes "uint4" ∷ codes "uint8" ∷ codes "int1" ∷ codes "int2" ∷ codes "int4" ∷ codes "int8"
     ∷ codes "string" ∷ codes "rect" ∷ []
 
-abbrev pub is_reserved : List ℕ → Bool
+-- the word is one of these
+unfoldable pub is_reserved : List ℕ → Bool
 is_reserved name = list_any (λ word. pointwise ◌==◌ word name) reserved
 
 -- a text has these tokens in turn, and then the rest

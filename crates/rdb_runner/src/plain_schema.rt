@@ -6,9 +6,11 @@ ghost use Rattle.std.specs.Bool.{OnTrue, OnFalse};
 ghost use Rattle.rdb_ddl.specs.Token.{Name, Mark, lexeme_at};
 ghost use Rattle.rdb_runner.specs.PlainSchema.{is_reserved, IsSchemaText, EndsAfter, BeginsWith, database_words, class_words, field_words, last_words};
 
+use crate::decimal::text_of;
 use rdb_ddl::token::{Sign, Token, lexeme_at};
 
 /// Whether the word is one of the schema language, and so no name.
+#[tactic(auto, unfolding(crate::specs::PlainSchema::is_reserved))]
 fn is_reserved(word: &[u8]) -> bool
     ensures { result ≡ is_reserved word.now }
 {
@@ -67,20 +69,20 @@ fn after_sign<'a>(text: &'a [u8], sign: Sign) -> Option<&'a [u8]>
 }
 
 /// A name at the front, and the text behind it.
-fn name_at<'a>(text: &'a [u8]) -> Option<(&'a [u8], &'a [u8])>
+fn name_at<'a>(text: &'a [u8]) -> Option<(&'a str, &'a [u8])>
     ensures found { IfSome result (λ r. ((lexeme_at text.now).word ≡ Name r.0.now) × (is_reserved r.0.now ≡ false) × (r.1.now ≡ (lexeme_at text.now).rest)) }
     ensures exact { (name : List ℕ) → is_reserved name ≡ false → (lexeme_at text.now).word ≡ Name name
         → IsSomeAnd result (λ r. (r.0.now ≡ name) × (r.1.now ≡ (lexeme_at text.now).rest)) }
 {
     let lexeme = lexeme_at(text);
     match lexeme.token {
-        Token::Name(name) if !is_reserved(name) => Some((name, lexeme.rest)),
+        Token::Name(name) if !is_reserved(name) => Some((text_of(name)?, lexeme.rest)),
         _ => None,
     }
 }
 
 /// The name in `declare database NAME;`, and the text behind it.
-fn database<'a>(text: &'a [u8]) -> Option<(&'a [u8], &'a [u8])>
+fn database<'a>(text: &'a [u8]) -> Option<(&'a str, &'a [u8])>
     ensures found { IfSome result (λ r. BeginsWith (database_words r.0.now) text.now r.1.now × (is_reserved r.0.now ≡ false)) }
     ensures exact { (name rest : List ℕ) → is_reserved name ≡ false → BeginsWith (database_words name) text.now rest
         → IsSomeAnd result (λ r. (r.0.now ≡ name) × (r.1.now ≡ rest)) }
@@ -93,7 +95,7 @@ fn database<'a>(text: &'a [u8]) -> Option<(&'a [u8], &'a [u8])>
 }
 
 /// The name in `class NAME {`, and the text behind it.
-fn class<'a>(text: &'a [u8]) -> Option<(&'a [u8], &'a [u8])>
+fn class<'a>(text: &'a [u8]) -> Option<(&'a str, &'a [u8])>
     ensures found { IfSome result (λ r. BeginsWith (class_words r.0.now) text.now r.1.now × (is_reserved r.0.now ≡ false)) }
     ensures exact { (name rest : List ℕ) → is_reserved name ≡ false → BeginsWith (class_words name) text.now rest
         → IsSomeAnd result (λ r. (r.0.now ≡ name) × (r.1.now ≡ rest)) }
@@ -105,7 +107,7 @@ fn class<'a>(text: &'a [u8]) -> Option<(&'a [u8], &'a [u8])>
 }
 
 /// The name in `uint4 NAME;`, and the text behind it.
-fn field<'a>(text: &'a [u8]) -> Option<(&'a [u8], &'a [u8])>
+fn field<'a>(text: &'a [u8]) -> Option<(&'a str, &'a [u8])>
     ensures found { IfSome result (λ r. BeginsWith (field_words r.0.now) text.now r.1.now × (is_reserved r.0.now ≡ false)) }
     ensures exact { (name rest : List ℕ) → is_reserved name ≡ false → BeginsWith (field_words name) text.now rest
         → IsSomeAnd result (λ r. (r.0.now ≡ name) × (r.1.now ≡ rest)) }
@@ -142,9 +144,9 @@ fn ends(text: &[u8]) -> bool
 /// The names of a schema of the simplest form, lent from its text.
 #[derive(Clone, Copy, Debug)]
 pub struct PlainSchema<'a> {
-    pub database: &'a [u8],
-    pub class: &'a [u8],
-    pub field: &'a [u8],
+    pub database: &'a str,
+    pub class: &'a str,
+    pub field: &'a str,
 }
 
 /// The names in a text of this form, where it is one. The cost grows with the text.
