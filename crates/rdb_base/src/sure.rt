@@ -52,7 +52,12 @@ impl SureFiles {
     }
 
     /// What a read answers.
-    fn answer(&self, alloc: Global, name: &str, budget: u64) -> Result<Result<Bytes, ReadFault>, NoMemory>
+    fn answer(
+        &self,
+        alloc: Global,
+        name: &str,
+        budget: u64,
+    ) -> Result<Result<Bytes, ReadFault>, NoMemory>
         ensures { IfOk result (λ answer. answer ≡ read_of (bytes_of self.now.held name.now) budget) }
     {
         match self.held.get(name) {
