@@ -65,4 +65,53 @@ impl Db {
             }
         }
     }
+
+    // Gives an object a row, unless there is no such object, or a unique index has its key at another.
+    fn replace(&mut self, schema: &Schema, class: u32, id: u64, row: &Row) -> Result<Reply, NoMemory>
+        requires class { class < length self.old }
+        requires declared { class < length schema.now.classes }
+        requires few_indexes { HasFewIndexes schema.now }
+        ensures reply { IfOk result (λ reply. reply ≡ (answer schema.now self.old (op.Put class id row.now)).0) }
+        ensures next { OnOk result (self.new ≡ (answer schema.now self.old (op.Put class id row.now)).1) }
+        ensures err { OnErr result (self.new ≡ self.old) }
+    {
+        let alloc = *self.classes.allocator();
+        let objects = &mut self.classes[class as usize];
+        if objects.row(id).is_none() {
+            return Ok(Reply::NotFound);
+        }
+        let indexes = class_indexes(schema, class);
+        match find_clash(alloc, indexes, row, objects.as_slice(), Some(id))? {
+            Some((index, id)) => Ok(Reply::Duplicate { index, id }),
+            None => {
+                objects.put(id, row.copy()?)?;
+                Ok(Reply::Done)
+            }
+        }
+    }
+
+    // Takes an object away, if it is there.
+    fn delete(&mut self, schema: &Schema, class: u32, id: u64) -> Reply
+        requires class { class < length self.old }
+        ensures reply { result ≡ (answer schema.now self.old (op.Del class id)).0 }
+        ensures next { self.new ≡ (answer schema.now self.old (op.Del class id)).1 }
+    {
+        let objects = &mut self.classes[class as usize];
+        if objects.row(id).is_none() {
+            return Reply::NotFound;
+        }
+        objects.remove(id);
+        Reply::Done
+    }
+
+    // The row of an object, copied.
+    fn get(&self, schema: &Schema, class: u32, id: u64) -> Result<Reply, NoMemory>
+        requires class { class < length self.now }
+        ensures reply { IfOk result (λ reply. reply ≡ (answer schema.now self.now (op.Get class id)).0) }
+    {
+        match self.classes[class as usize].row(id) {
+            Some(row) => Ok(Reply::Row(row.copy()?)),
+            None => Ok(Reply::NotFound),
+        }
+    }
 }
