@@ -1,3 +1,4 @@
 pub mod ObjectsLemmas
 pub mod KeysLemmas
 pub mod ClashLemmas
+pub mod SeekLemmas
