@@ -1,8 +1,8 @@
 -- A sorted index, and the next pair in it.
-use Rattle.std.proofs.Common.{◌≡◌, ℕ, ◌+◌, ◌<◌, Bool, true, false, ◌&&◌, not, cond, List, [], ◌∷◌, length, get_or, drop, Option, Some, None, refl, sym, ap, subst, ◌∙◌, arith, if◌then◌else◌}
+use Rattle.std.proofs.Common.{◌≡◌, ℕ, ◌+◌, ◌<◌, Bool, true, false, ◌&&◌, cond, List, [], ◌∷◌, length, get_or, drop, Option, Some, None, refl, sym, ap, subst, ◌∙◌, if◌then◌else◌}
 use Rattle.std.specs.declared.cmp.Ordering.{Ordering}
 use Rattle.std.specs.declared.cmp.Ordering.TheVariants.{Less, Equal, Greater}
-use Rattle.std.specs.Ordering.{ordering_then, ordering_reverse, nat_cmp, is_lt, is_gt, on, then_cmp}
+use Rattle.std.specs.Ordering.{ordering_reverse, is_lt, is_gt}
 use Rattle.std.specs.List.{find, AllByRecursion}
 use Rattle.std.specs.Option.{option_or}
 use Rattle.std.specs.Cmp.{IsTotalOrder}
@@ -11,7 +11,6 @@ use Rattle.std.proofs.lemmas.List.{drop_more}
 use mathlib.Core.Bool.{true≢false}
 use Rattle.rdb_base.specs.declared.operation.Place.{Place}
 use Rattle.rdb_base.specs.declared.operation.Place.TheVariants as place
-use Rattle.rdb_base.specs.Order.{row_order}
 use Rattle.rdb_base.proofs.OrderLemmas.{row_order_total}
 use Rattle.rdb_model.specs.Database.{Row, Objects}
 use Rattle.rdb_model.specs.Index.{pair_order, with_pair, pair_of, index}
@@ -63,8 +62,8 @@ all_with_pair : (P : Row × ℕ → Type 0) (p : Row × ℕ) (ps : List (Row × 
 all_with_pair P p [] here rest = (here, tt)
 all_with_pair P p (q ∷ qs) here rest =
     elim (is_lt (pair_order p q)) as (λ b. AllByRecursion P (cond b (p ∷ q ∷ qs) (q ∷ with_pair p qs))) [
-    | true ↦ (here, rest)
-    | false ↦ (rest.0, all_with_pair P p qs here rest.1)
+      | true ↦ (here, rest)
+      | false ↦ (rest.0, all_with_pair P p qs here rest.1)
     ]
 
 -- a pair below another isn't above it

@@ -1,5 +1,5 @@
 -- What the parts of a seek answer.
-use Rattle.std.specs.Prelude.{◌≡◌, ℕ, ◌+◌, ◌<◌, ◌≤◌, Bool, true, false, not, List, [], ◌∷◌, length, drop, Option, Some, None}
+use Rattle.std.specs.Prelude.{◌≡◌, ℕ, ◌<◌, ◌≤◌, Bool, true, false, not, List, [], ◌∷◌, length, drop, Option, Some, None}
 use Rattle.std.specs.Ordering.{is_lt}
 use Rattle.rdb_base.specs.declared.value.Value.{Value}
 use Rattle.rdb_model.specs.Database.{Row}

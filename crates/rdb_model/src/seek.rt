@@ -56,7 +56,13 @@ pub(crate) fn compare_pair(fields: &Numbers, object: &(u64, Row), key: &Row, id:
 }
 
 // Whether an object's pair takes the place of the best so far: going up where it comes before it, going down where it doesn't.
-fn is_better(fields: &Numbers, object: &(u64, Row), best: Option<&(u64, Row)>, place: &Place, up: bool) -> bool
+fn is_better(
+    fields: &Numbers,
+    object: &(u64, Row),
+    best: Option<&(u64, Row)>,
+    place: &Place,
+    up: bool,
+) -> bool
     ensures { result ≡ (is_beyond place.now up (pair_of fields.now object.now)
         && takes up (pair_of fields.now object.now) (option_map (pair_of fields.now) (option_copied best.entry))) }
 {
