@@ -42,22 +42,27 @@ written (Some at) told before after = (reply.Duplicate at.0 at.1, before)
 abbrev pub is_after : Place → Row × ℕ → Bool
 is_after place.Start pair = true
 is_after place.End pair = false
-is_after (place.At wanted id) pair = is_lt (pair_order (wanted, id) pair)
+is_after (place.At wanted id) pair = is_gt (pair_order pair (wanted, id))
 
 abbrev pub is_before : Place → Row × ℕ → Bool
 is_before place.Start pair = false
 is_before place.End pair = true
-is_before (place.At wanted id) pair = is_gt (pair_order (wanted, id) pair)
+is_before (place.At wanted id) pair = is_lt (pair_order pair (wanted, id))
 
 -- the last element that passes a test
 abbrev pub find_last : {A : Type 0} → (A → Bool) → List A → Option A
 find_last passes [] = None
 find_last passes (x ∷ xs) = option_or (find_last passes xs) (if passes x then Some x else None)
 
+-- whether a pair is beyond a place, up or down
+abbrev pub is_beyond : Place → Bool → Row × ℕ → Bool
+is_beyond from true pair = is_after from pair
+is_beyond from false pair = is_before from pair
+
 -- the first pair after the place, or the last one before it
 abbrev pub sought : Place → Bool → List (Row × ℕ) → Option (Row × ℕ)
-sought from true pairs = find (is_after from) pairs
-sought from false pairs = find_last (is_before from) pairs
+sought from true pairs = find (is_beyond from true) pairs
+sought from false pairs = find_last (is_beyond from false) pairs
 
 -- whether two spans have a number in common, ends included
 abbrev pub spans_meet : ℤ → ℤ → ℤ → ℤ → Bool

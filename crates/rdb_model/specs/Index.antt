@@ -34,7 +34,11 @@ abbrev pub with_pair : Row × ℕ → List (Row × ℕ) → List (Row × ℕ)
 with_pair p [] = p ∷ []
 with_pair p (q ∷ qs) = if is_lt (pair_order p q) then p ∷ q ∷ qs else q ∷ with_pair p qs
 
+-- the key and the id of an object
+abbrev pub pair_of : List ℕ → ℕ × Row → Row × ℕ
+pair_of fields object = (key fields object.1, object.0)
+
 -- the pairs of a key and an id of each object, in order
 abbrev pub index : List ℕ → Objects → List (Row × ℕ)
 index fields [] = []
-index fields (o ∷ os) = with_pair (key fields o.1, o.0) (index fields os)
+index fields (o ∷ os) = with_pair (pair_of fields o) (index fields os)

@@ -8,3 +8,4 @@ pub mod Touch
 pub mod Serial
 pub mod Fits
 pub mod Others
+pub mod Seek

@@ -22,11 +22,11 @@ shares_key indexes row other = list_any (λ i. i.unique && has_key i.key (key i.
 
 -- whether the pair isn't beyond what was found, going up, and going down
 abbrev pub up_to : Reply → Row × ℕ → Bool
-up_to (reply.At found id) pair = not (is_lt (pair_order (found, id) pair))
+up_to (reply.At found id) pair = not (is_gt (pair_order pair (found, id)))
 up_to _ pair = true
 
 abbrev pub down_to : Reply → Row × ℕ → Bool
-down_to (reply.At found id) pair = not (is_gt (pair_order (found, id) pair))
+down_to (reply.At found id) pair = not (is_lt (pair_order pair (found, id)))
 down_to _ pair = true
 
 -- whether a key equals the text; is a prefix of it; or begins with it

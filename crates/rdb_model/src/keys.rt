@@ -1,9 +1,10 @@
 //! The keys of rows in an index: made, and compared without being made. It reads rows and changes nothing.
 
 ghost use Rattle.std.specs.Prelude.{◌≡◌, IfOk, slice_get};
-ghost use Rattle.std.specs.Option.{option_copied};
+ghost use Rattle.std.specs.Option.{option_copied, option_map};
 ghost use Rattle.rdb_base.specs.Order.{row_order};
 ghost use Rattle.rdb_model.specs.Index.{key};
+ghost use Rattle.rdb_model.specs.Seek.{IsNextValue};
 
 use rdb_base::duplicate::Duplicate;
 use rdb_base::list::{List, NoMemory};
@@ -55,4 +56,41 @@ pub(crate) fn compare_key(fields: &Numbers, row: &Row, wanted: &Row) -> Ordering
     } else {
         Ordering::Equal
     }
+}
+
+/// Compares the keys that two rows have at these fields.
+pub(crate) fn compare_keys(fields: &Numbers, a: &Row, b: &Row) -> Ordering
+    ensures { result ≡ row_order (key fields.now a.now) (key fields.now b.now) }
+{
+    let mut own = 0;
+    let mut other = 0;
+    loop {
+        match (next_value(fields, a, own), next_value(fields, b, other)) {
+            (None, None) => return Ordering::Equal,
+            (None, Some(_)) => return Ordering::Less,
+            (Some(_), None) => return Ordering::Greater,
+            (Some((value, behind)), Some((other_value, other_behind))) => {
+                match order(value, other_value) {
+                    Ordering::Equal => {
+                        own = behind;
+                        other = other_behind;
+                    }
+                    unequal => return unequal,
+                }
+            }
+        }
+    }
+}
+
+// The value of a row at the first of these fields that it has, from a place on, and the place behind that field.
+fn next_value<'a>(fields: &Numbers, row: &'a Row, from: usize) -> Option<(&'a Value, usize)>
+    ensures { IsNextValue fields.now row.now from (option_map (λ found. (found.0.now, found.1)) result) }
+{
+    let fields = fields.as_slice();
+    for at in from..fields.len() {
+        if let Some(value) = value_at(row, fields[at]) {
+            return Some((value, at + 1));
+        }
+    }
+    None
 }

@@ -8,3 +8,4 @@ mod keys;
 pub mod legality;
 mod lookups;
 pub mod objects;
+mod seek;
