@@ -1,3 +1,4 @@
 pub mod DecimalLemmas
 pub mod PlainClientLemmas
 pub mod ReadingLemmas
+pub mod TellingLemmas

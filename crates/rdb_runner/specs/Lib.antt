@@ -4,3 +4,4 @@ pub mod PlainReport
 pub mod PlainSchedule
 pub mod PlainSchema
 pub mod Reading
+pub mod Telling

@@ -24,16 +24,26 @@ pub record AreAnswered (schema : Schema) (steps : List PlainStep) (done : List (
   pub operations : map (λ d. d.0) done ≡ numbered 1 steps
   pub runs : IsSome (run schema (empty 1) done)
 
+-- a journal of the one client with these steps, and that it is legal
+pub record IsJournalOf (schema : Schema) (steps : List PlainStep) (journal : List Entry) : Type 0 where
+  pub done : List (Op × Reply)
+  pub answered : AreAnswered schema steps done
+  pub entries : journal ≡ journal_of done
+  pub legal : IsLegal schema journal
+
+-- the text is the report of the client that made these steps and ended
+pub record IsPrinted (schema : Schema) (steps : List PlainStep) (text : List ℕ) : Type 0 where
+  pub journal : List Entry
+  pub made : IsJournalOf schema steps journal
+  pub printed : text ≡ report schema journal (ends.Done ∷ []) ([] ∷ [])
+
 -- the report of these three texts
 pub record IsReportOf (schema_text schedule_text client_text text : List ℕ) : Type 0 where
   pub database : List ℕ
   pub class : List ℕ
   pub field : List ℕ
   pub steps : List PlainStep
-  pub done : List (Op × Reply)
   pub schema_read : IsSchemaText schema_text database class field
   pub schedule_read : is_plain_schedule schedule_text ≡ true
   pub client_read : IsClientOf class client_text steps
-  pub answered : AreAnswered (schema_of database class field) steps done
-  pub legal : IsLegal (schema_of database class field) (journal_of done)
-  pub printed : text ≡ report (schema_of database class field) (journal_of done) (ends.Done ∷ []) ([] ∷ [])
+  pub printed : IsPrinted (schema_of database class field) steps text

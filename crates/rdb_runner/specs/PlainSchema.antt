@@ -60,6 +60,13 @@ schema_of database class field = record {
   } ∷ [];
 }
 
+-- a schema of this form
+pub record IsPlain (schema : Schema) : Type 0 where
+  pub database : List ℕ
+  pub class : List ℕ
+  pub field : List ℕ
+  pub same : schema ≡ schema_of database class field
+
 -- the text declares this schema
 pub record IsSchemaText (text database class field : List ℕ) : Type 0 where
   pub behind_database : List ℕ

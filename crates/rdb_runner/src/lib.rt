@@ -4,6 +4,8 @@
 mod decimal;
 mod front;
 mod plain_client;
+mod plain_run;
 mod plain_schedule;
 mod plain_schema;
 pub mod reading;
+mod telling;
