@@ -8,3 +8,5 @@ mod names;
 mod operations;
 mod replies;
 pub mod summary;
+#[cfg(test)]
+mod tests;

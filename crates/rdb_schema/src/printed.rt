@@ -156,3 +156,55 @@ pub fn row_text(alloc: Global, row: &Row) -> Result<Text, NoMemory>
 {
     Ok(Text::from_string(append_row(String::new(alloc), row)?))
 }
+
+#[cfg(test)]
+mod tests {
+    use super::*;
+    use rdb_base::list::List;
+    use std::test::Fail;
+
+    #[test]
+    fn a_row_has_one_printed_form(rt: HostRuntime) -> Result<(), Fail> {
+        let mut vector = List::new(rt.alloc());
+        vector.push(Element::Leaf(Leaf::Num(1)))?;
+        vector.push(Element::Leaf(Leaf::Num(65535)))?;
+        let mut group = List::new(rt.alloc());
+        group.push(Leaf::Num(-1))?;
+        group.push(Leaf::Num(2))?;
+        let mut row = List::new(rt.alloc());
+        row.push(Value::Leaf(Leaf::Text(Text::of(rt.alloc(), "a\"b")?)))?;
+        row.push(Value::List(vector))?;
+        row.push(Value::Group(group))?;
+        row.push(Value::List(List::new(rt.alloc())))?;
+        let printed = row_text(rt.alloc(), &row)?;
+        assert_eq!(rt; printed.as_str(), "{\"a\\\"b\",(1,65535),{-1,2},()}");
+        Ok(())
+    }
+
+    #[test]
+    fn control_bytes_quotes_and_backslashes_are_escaped(rt: HostRuntime) -> Result<(), Fail> {
+        for (words, printed) in [
+            ("", "\"\""),
+            ("a\\b\"", "\"a\\\\b\\\"\""),
+            ("\t\u{1f}\u{7f}", "\"\\x09\\x1f\\x7f\""),
+            ("é ~", "\"é ~\""),
+        ] {
+            let text = append_quoted(String::new(rt.alloc()), words)?;
+            assert_eq!(rt; text.as_str(), printed);
+        }
+        Ok(())
+    }
+
+    #[test]
+    fn a_rectangle_is_printed_x1_y1_x2_y2(rt: HostRuntime) -> Result<(), Fail> {
+        let rect = Rect {
+            x1: -2147483648,
+            y1: -1,
+            x2: 2147483647,
+            y2: 10,
+        };
+        let text = append_rect(String::new(rt.alloc()), rect)?;
+        assert_eq!(rt; text.as_str(), "[-2147483648,-1,2147483647,10]");
+        Ok(())
+    }
+}

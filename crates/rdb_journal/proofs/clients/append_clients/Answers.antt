@@ -14,5 +14,5 @@ loop-place-preserved c =
 pub returns : goal.returns
 returns c =
     let past : length (zip c.args.ends.now c.args.notes.now) ≤ c.loop-place.place =
-        omega (arith, length-zip c.args.ends.now c.args.notes.now, c.min-place-end.ensures, c.len.ensures, c.len-2.ensures) in
+    omega (arith, length-zip c.args.ends.now c.args.notes.now, c.min-place-end.ensures, c.len.ensures, c.len-2.ensures) in
     c.loop-place.invariant ∙ ap (λ pairs. c.args.lines ++ flat_map (λ client. client_lines c.args.schema.now client.0 client.1.0 client.1.1) (enumerate_from 1 pairs)) (take_all c.loop-place.place (zip c.args.ends.now c.args.notes.now) past)
