@@ -1,4 +1,5 @@
 //! Schemas: what classes, fields, indexes and events a database has.
 #![tactic(auto)]
 
+pub mod printed;
 pub mod schema;
