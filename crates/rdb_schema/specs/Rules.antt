@@ -9,7 +9,8 @@ use Rattle.rdb_schema.specs.declared.schema.IndexKind.TheVariants.{Hash, Tree, R
 use Rattle.rdb_schema.specs.declared.syntax.Part.{Part}
 use Rattle.rdb_schema.specs.declared.syntax.Part.TheVariants as parts
 use Rattle.rdb_schema.specs.declared.syntax.DdlCause.{DdlCause}
-use Rattle.rdb_schema.specs.declared.syntax.DdlCause.TheVariants.{Unknown, Twice, BadKey, TooMany}
+use Rattle.rdb_schema.specs.declared.syntax.DdlCause.TheVariants.{Unknown, Twice, BadKey, TooMany, NoMemory}
+use Rattle.rdb_schema.specs.declared.syntax.SchemaFault.{SchemaFault}
 
 -- whether two names are one
 abbrev pub same : List ℕ → List ℕ → Bool
@@ -218,3 +219,12 @@ pub record IsFirstFault (syntax : List Part) (at : ℕ) (cause : DdlCause) : Typ
 -- no part breaks a rule
 abbrev pub BreaksNoRule : List Part → Type 0
 BreaksNoRule syntax = (at : ℕ) → at < length syntax → cause_at syntax at ≡ None
+
+-- a fact of every cause but want of memory
+abbrev pub UnlessMemory : DdlCause → Type 0 → Type 0
+UnlessMemory NoMemory P = Unit {0}
+UnlessMemory cause P = P
+
+-- a fault names the first part that breaks a rule, unless memory was wanting
+abbrev pub IsFaultOf : List Part → SchemaFault → Type 0
+IsFaultOf syntax fault = UnlessMemory fault.cause (IsFirstFault syntax fault.at fault.cause)

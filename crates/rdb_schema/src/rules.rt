@@ -124,7 +124,7 @@ fn body_len(after: &[Part]) -> usize
 }
 
 /// The parts up to the next struct or class.
-fn body_of(after: &[Part]) -> &[Part]
+pub fn body_of(after: &[Part]) -> &[Part]
     ensures { result.now ≡ body_of after.now }
 {
     after.split_at(body_len(after)).0
@@ -271,7 +271,7 @@ fn has_member(body: &[Part]) -> bool
     body.iter().any(|part| is_member(part))
 }
 
-fn has_autoid(front: &[Part]) -> bool
+pub fn has_autoid(front: &[Part]) -> bool
     ensures { result ≡ list_any is_autoid front.now }
 {
     front.iter().any(|part| is_autoid(part))

@@ -1,8 +1,12 @@
 //! A schema's text as a list of parts, before any name is looked up, and what may be wrong with it.
 
+ghost use Rattle.std.specs.Prelude.{◌≡◌};
+ghost use Rattle.rdb_schema.specs.declared.syntax.DdlCause.TheVariants.{NoMemory};
+
 use crate::schema::{EventKind, IndexKind, Plain};
 use rdb_base::list::List;
 use rdb_base::text::Text;
+use std::alloc::AllocError;
 use thiserror::Error;
 
 /// What one or a few tokens of a schema's text say. Parts stand in the order of the text.
@@ -61,4 +65,15 @@ pub enum DdlCause {
 pub struct SchemaFault {
     pub at: usize,
     pub cause: DdlCause,
+}
+
+impl From<AllocError> for SchemaFault {
+    ghost from_gives = { λ _ fault. fault.cause ≡ NoMemory };
+
+    fn from(_error: AllocError) -> SchemaFault {
+        SchemaFault {
+            at: 0,
+            cause: DdlCause::NoMemory,
+        }
+    }
 }
