@@ -2,4 +2,9 @@
 #![tactic(auto)]
 
 pub mod printed;
+mod declared;
+mod first_fault;
+pub mod resolve;
+mod rules;
 pub mod schema;
+pub mod syntax;
