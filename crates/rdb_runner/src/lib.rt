@@ -8,4 +8,5 @@ mod plain_run;
 mod plain_schedule;
 mod plain_schema;
 pub mod reading;
+pub mod replay;
 mod telling;

@@ -1,11 +1,11 @@
 //! Writes what is due to the caller's sink, and answers the status.
 
-ghost use Rattle.std.specs.Prelude.{◌≡◌, ◌++◌, ◌⊎◌, codes, IfOk, string_bytes};
+ghost use Rattle.std.specs.Prelude.{◌≡◌, ◌++◌, ◌⊎◌, codes, IfOk, OnOk, OnErr, string_bytes};
 ghost use Rattle.std.specs.List.{concat};
-ghost use Rattle.rdb_runner.specs.Telling.{Tells, IsSilent, ink_of};
+ghost use Rattle.rdb_runner.specs.Telling.{Tells, Writes, IsCutOff, IsSilent, ink_of};
 
 use rdb_base::list::{List, NoMemory};
-use rdb_base::sink::Sink;
+use rdb_base::sink::{Sink, WriteFault};
 use rdb_base::text::Text;
 use std::alloc::Global;
 
@@ -25,12 +25,20 @@ pub fn tell<K: Sink>(out: &mut K, status: u8, piece: &[u8]) -> u8
     }
 }
 
+/// Writes a line as one piece.
+fn write_line<K: Sink>(out: &mut K, line: &Text) -> Result<(), WriteFault>
+    ensures ok { OnOk result (Writes (ink_of K.written K.faults out.old out.new) line.now) }
+    ensures err { OnErr result (IsCutOff (ink_of K.written K.faults out.old out.new) line.now) }
+{
+    out.write(line.as_str().as_bytes())
+}
+
 /// Writes the lines, each one piece, and answers 0 or that a write failed. The cost grows with the lines.
 pub fn tell_lines<K: Sink>(out: &mut K, lines: &List<Text>) -> u8
     ensures { Tells (ink_of K.written K.faults out.old out.new) 0 (concat lines.now) result }
 {
     for line in lines.as_slice() {
-        match out.write(line.as_str().as_bytes()) {
+        match write_line(out, line) {
             Ok(()) => {}
             Err(_) => return CUT_OFF,
         }
