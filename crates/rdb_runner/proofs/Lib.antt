@@ -1,3 +1,3 @@
-pub mod Parts
-pub mod Reading
-pub mod Meaning
+pub mod CommandLineMeaning
+pub mod CommandLineParts
+pub mod CommandLineReading

@@ -1,7 +1,7 @@
 -- What a command line is: from what it asks for to its words.
-use Rattle.std.specs.Prelude.{◌≡◌, ℕ, ◌+◌, ◌^◌, ◌<◌, ◌≤◌, ◌⊎◌, Bool, true, false, List, [], ◌∷◌, ◌++◌, map, length, Option, Some, None, codes, slice_index, ◌≢◌, if◌then◌else◌}
+use Rattle.std.specs.Prelude.{◌≡◌, ℕ, ◌^◌, ◌<◌, ◌≤◌, ◌⊎◌, Bool, true, false, List, [], ◌∷◌, ◌++◌, map, length, Option, Some, None, codes, slice_index, ◌≢◌, ⊤}
 use Rattle.std.specs.List.{flat_map}
-use Rattle.std.specs.Option.{option_to_list, option_map}
+use Rattle.std.specs.Option.{option_to_list}
 use Rattle.std.specs.Str.Parse.{IsNumeral, digits_value}
 use Rattle.std.specs.Borrow.{Bor}
 use Rattle.rdb_runner.specs.declared.command_line.Manager.{Manager}
@@ -17,7 +17,7 @@ use Rattle.rdb_runner.specs.declared.command_line.Arguments.{Arguments}
 abbrev pub Word : Type 0
 Word = List ℕ
 
--- what a command line asks for; a word here is a file's name
+-- what a command line asks for: the words here are names of files
 pub data Command : Type 0 where
   replay : Settings → Word → Word → List Word → Command
   run : Settings → Word → List Word → Command
@@ -25,7 +25,7 @@ pub data Command : Type 0 where
   check : Word → Command
   job : ℕ → Bool → Command
 
--- what stands behind the command, up to `--`
+-- a part of the words between the command and `--`: an option with its value, a flag or a name
 pub data Part : Type 0 where
   manager : Word → Part
   pages : Word → Part
@@ -37,12 +37,16 @@ abbrev pub BeginsWithOption : Word → Word → List Word → List Word → Type
 BeginsWithOption option value words rest =
     (words ≡ option ∷ value ∷ rest) ⊎ (words ≡ (option ++ codes "=" ++ value) ∷ rest)
 
--- the words are this part, and then the rest; a name doesn't begin with `-`
+-- a name before `--`: its first byte isn't 45, which is `-`; it may be empty
+abbrev pub IsPlain : Word → Type 0
+IsPlain word = slice_index word 0 ≢ 45
+
+-- the words are this part, and then the rest
 abbrev pub BeginsWith : Part → List Word → List Word → Type 0
 BeginsWith (manager value) words rest = BeginsWithOption (codes "--manager") value words rest
 BeginsWith (pages value) words rest = BeginsWithOption (codes "--pages") value words rest
 BeginsWith threads words rest = words ≡ codes "--threads" ∷ rest
-BeginsWith (name word) words rest = (words ≡ word ∷ rest) × (slice_index word 0 ≢ 45)
+BeginsWith (name word) words rest = (words ≡ word ∷ rest) × IsPlain word
 
 -- the words are these parts in turn, and then the rest
 abbrev pub BeginsWithAll : List Part → List Word → List Word → Type 0
@@ -50,37 +54,29 @@ BeginsWithAll [] words rest = words ≡ rest
 BeginsWithAll (part ∷ parts) words rest =
     (between : List Word) × BeginsWith part words between × BeginsWithAll parts between rest
 
--- the words end here, or by `--` and names of any form
+-- nothing is left, or `--` and then names of any form
 abbrev pub IsEnd : List Word → List Word → Type 0
 IsEnd words names = ((words ≡ []) × (names ≡ [])) ⊎ (words ≡ codes "--" ∷ names)
 
 -- the value that a part gives to `--manager`
 abbrev pub manager_in : Part → List Word
 manager_in (manager value) = value ∷ []
-manager_in (pages value) = []
-manager_in threads = []
-manager_in (name word) = []
+manager_in _ = []
 
 -- the value that a part gives to `--pages`
 abbrev pub pages_in : Part → List Word
-pages_in (manager value) = []
 pages_in (pages value) = value ∷ []
-pages_in threads = []
-pages_in (name word) = []
+pages_in _ = []
 
 -- the flag that a part sets
 abbrev pub threads_in : Part → List Bool
-threads_in (manager value) = []
-threads_in (pages value) = []
 threads_in threads = true ∷ []
-threads_in (name word) = []
+threads_in _ = []
 
 -- the name that a part is
 abbrev pub name_in : Part → List Word
-name_in (manager value) = []
-name_in (pages value) = []
-name_in threads = []
 name_in (name word) = word ∷ []
+name_in _ = []
 
 -- a flag that is set, as often as it is
 abbrev pub flag_to_list : Bool → List Bool
@@ -158,9 +154,15 @@ word_of (audit schema report) = codes "audit"
 word_of (check schema) = codes "check"
 word_of (job seed with_threads) = codes "job"
 
--- with this word as the command, what is given asks for this
-abbrev pub AsksBy : Word → Given → Command → Type 0
-AsksBy word given command = (word ≡ word_of command) × Asks command given
+-- a command's pages are from 1 to 16,384, and its clients 16 at most
+abbrev pub IsWithinLimits : Command → Type 0
+IsWithinLimits (replay settings schema schedule clients) =
+    (1 ≤ settings.pages) × (settings.pages ≤ 16384) × (length clients ≤ 16)
+IsWithinLimits (run settings schema clients) =
+    (1 ≤ settings.pages) × (settings.pages ≤ 16384) × (length clients ≤ 16)
+IsWithinLimits (audit schema report) = ⊤
+IsWithinLimits (check schema) = ⊤
+IsWithinLimits (job seed with_threads) = ⊤
 
 -- the words are a command line that asks for this command
 pub record IsCommandLine (words : List Word) (command : Command) : Type 0 where
@@ -169,6 +171,8 @@ pub record IsCommandLine (words : List Word) (command : Command) : Type 0 where
   pub begins : words ≡ word_of command ∷ behind
   pub gives : Gives behind given
   pub asks : Asks command given
+
+-- Below: what the reader lends, as bytes, and how it adds up what is given.
 
 -- the bytes of lent texts
 abbrev pub texts : List (Bor Word) → List Word
@@ -182,7 +186,7 @@ command_of (Audit schema report) = audit schema.now report.now
 command_of (Check schema) = check schema.now
 command_of (Job seed with_threads) = job seed with_threads
 
--- the same of a part
+-- a part, without the loan
 abbrev pub part_of : Piece → Part
 part_of (ManagerPiece value) = manager value.now
 part_of (PagesPiece value) = pages value.now
@@ -194,13 +198,14 @@ abbrev pub text_of : Option (Bor Word) → Option Word
 text_of None = None
 text_of (Some value) = Some value.now
 
--- the same of the arguments
+-- what is given, without the loans
 abbrev pub given_of : Arguments → Given
 given_of a = record {
   manager_value = text_of a.manager;
   pages_value = text_of a.pages;
   with_threads = a.threads;
-  names = texts a.names.items }
+  names = texts a.names.items;
+}
 
 -- new is old with this part added
 pub record Adds (part : Part) (old new : Given) : Type 0 where
@@ -209,6 +214,10 @@ pub record Adds (part : Part) (old new : Given) : Type 0 where
   pub threads_added : flag_to_list new.with_threads ≡ flag_to_list old.with_threads ++ threads_in part
   pub names_added : new.names ≡ old.names ++ name_in part
 
--- the same with more names
+-- what is given, with more names
 abbrev pub with_names : Given → List Word → Given
 with_names given more = record given { names = given.names ++ more }
+
+-- with this word as the command, what is given asks for this
+abbrev pub AsksBy : Word → Given → Command → Type 0
+AsksBy word given command = (word ≡ word_of command) × Asks command given

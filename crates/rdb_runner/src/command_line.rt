@@ -3,7 +3,7 @@
 
 ghost use Rattle.std.specs.Prelude.{◌≡◌, ◌↔◌, ℕ, ◌+◌, ◌^◌, ◌<◌, ◌≤◌, List, [], ◌++◌, map, length, IfSome, IfNone, IsSome, IsTrue, SomeIff, codes, string_bytes};
 ghost use Rattle.std.specs.Str.Parse.{IsNumeral, digits_value};
-ghost use Rattle.rdb_runner.specs.CommandLine.{Word, Command, Part, Given, BeginsWithOption, BeginsWith, IsManagerOf, ArePagesOf, text_of, Gives, HasSettings, HasNoSettings, AsksBy, IsCommandLine, command_of, part_of, given_of, with_names, Adds};
+ghost use Rattle.rdb_runner.specs.CommandLine.{Word, Command, Part, Given, BeginsWithOption, BeginsWith, IsManagerOf, ArePagesOf, text_of, Gives, HasSettings, HasNoSettings, AsksBy, IsCommandLine, IsWithinLimits, command_of, part_of, given_of, with_names, Adds};
 
 use arrayvec::ArrayVec;
 
@@ -40,7 +40,7 @@ pub struct Settings {
 pub type Clients<'a> = ArrayVec<&'a str, MAX_CLIENTS>;
 
 /// What a command line asks for. Each name is a file's, lent from the words.
-#[derive(Debug, Drop)]
+#[derive(Debug, PartialEq, Eq, Drop)]
 pub enum CommandLine<'a> {
     /// Runs the clients in the order of a schedule.
     Replay {
@@ -56,15 +56,23 @@ pub enum CommandLine<'a> {
         clients: Clients<'a>,
     },
     /// Judges a report.
-    Audit { schema: &'a str, report: &'a str },
+    Audit {
+        schema: &'a str,
+        report: &'a str,
+    },
     /// Writes the schema in its canonical form.
-    Check { schema: &'a str },
+    Check {
+        schema: &'a str,
+    },
     /// Runs the job that the seed generates, in threads if asked.
-    Job { seed: u64, threads: bool },
+    Job {
+        seed: u64,
+        threads: bool,
+    },
 }
 
 /// An option with its value, or a name.
-#[derive(Clone, Copy, Debug)]
+#[derive(Clone, Copy)]
 enum Piece<'a> {
     Manager(&'a str),
     Pages(&'a str),
@@ -73,7 +81,7 @@ enum Piece<'a> {
 }
 
 /// The options and names behind a command.
-#[derive(Debug, Drop)]
+#[derive(Drop)]
 struct Arguments<'a> {
     manager: Option<&'a str>,
     pages: Option<&'a str>,
@@ -116,12 +124,8 @@ fn chosen_pages(value: Option<&str>) -> Option<u32>
     let Some(word) = value else {
         return Some(DEFAULT_PAGES);
     };
-    let n = number(word)?;
-    if 1 <= n && n <= MAX_PAGES as u64 {
-        Some(n as u32)
-    } else {
-        None
-    }
+    let pages = u32::try_from(number(word)?).ok()?;
+    (1..=MAX_PAGES).contains(&pages).then_some(pages)
 }
 
 /// The value of this option, where the words begin with both, and the words behind them.
@@ -170,7 +174,7 @@ impl<'a> Arguments<'a> {
     fn add(&mut self, piece: Piece<'a>) -> Option<()>
         ensures some { IsSome result → Adds (part_of piece.entry) (given_of self.old) (given_of self.new) }
         ensures none { IfNone result ((new : Given) →
-            Adds (part_of piece.entry) (given_of self.old) new → length new.names ≤ 18 → ⊥) }
+            Adds (part_of piece.entry) (given_of self.old) new → length new.names ≤ MAX_NAMES → ⊥) }
     {
         match piece {
             Piece::Manager(value) if self.manager.is_none() => self.manager = Some(value),
@@ -185,7 +189,7 @@ impl<'a> Arguments<'a> {
     /// Adds these names, of any form, where there is room for all of them.
     fn add_names(&mut self, words: &'a [String]) -> Option<()>
         ensures some { IsSome result → given_of self.new ≡ with_names (given_of self.old) (map string_bytes words.now) }
-        ensures none { IfNone result (18 < length self.old.names.items + length words.now) }
+        ensures none { IfNone result (MAX_NAMES < length self.old.names.items + length words.now) }
     {
         for word in words {
             if self.names.is_full() {
@@ -213,6 +217,7 @@ impl<'a> Arguments<'a> {
         self.manager.is_none() && self.pages.is_none()
     }
 
+    /// A replay: a schema, a schedule and clients.
     fn replay(&self) -> Option<CommandLine<'a>>
         ensures some { IfSome result (λ line. AsksBy (codes "replay") (given_of self.now) (command_of line)) }
         ensures none { IfNone result ((command : Command) → AsksBy (codes "replay") (given_of self.now) command → ⊥) }
@@ -225,9 +230,15 @@ impl<'a> Arguments<'a> {
             return None;
         };
         let clients = Clients::try_from(clients).ok()?;
-        Some(CommandLine::Replay { settings, schema, schedule, clients })
+        Some(CommandLine::Replay {
+            settings,
+            schema,
+            schedule,
+            clients,
+        })
     }
 
+    /// A run: a schema and clients.
     fn run(&self) -> Option<CommandLine<'a>>
         ensures some { IfSome result (λ line. AsksBy (codes "run") (given_of self.now) (command_of line)) }
         ensures none { IfNone result ((command : Command) → AsksBy (codes "run") (given_of self.now) command → ⊥) }
@@ -240,9 +251,14 @@ impl<'a> Arguments<'a> {
             return None;
         };
         let clients = Clients::try_from(clients).ok()?;
-        Some(CommandLine::Run { settings, schema, clients })
+        Some(CommandLine::Run {
+            settings,
+            schema,
+            clients,
+        })
     }
 
+    /// An audit: a schema and a report.
     fn audit(&self) -> Option<CommandLine<'a>>
         ensures some { IfSome result (λ line. AsksBy (codes "audit") (given_of self.now) (command_of line)) }
         ensures none { IfNone result ((command : Command) → AsksBy (codes "audit") (given_of self.now) command → ⊥) }
@@ -255,6 +271,7 @@ impl<'a> Arguments<'a> {
         }
     }
 
+    /// A check: a schema.
     fn check(&self) -> Option<CommandLine<'a>>
         ensures some { IfSome result (λ line. AsksBy (codes "check") (given_of self.now) (command_of line)) }
         ensures none { IfNone result ((command : Command) → AsksBy (codes "check") (given_of self.now) command → ⊥) }
@@ -267,6 +284,7 @@ impl<'a> Arguments<'a> {
         }
     }
 
+    /// A generated job: its seed.
     fn job(&self) -> Option<CommandLine<'a>>
         ensures some { IfSome result (λ line. AsksBy (codes "job") (given_of self.now) (command_of line)) }
         ensures none { IfNone result ((command : Command) → AsksBy (codes "job") (given_of self.now) command → ⊥) }
@@ -274,7 +292,10 @@ impl<'a> Arguments<'a> {
         match self.names.as_slice() {
             [seed] if self.is_without_settings() => {
                 let seed = number(seed)?;
-                Some(CommandLine::Job { seed, threads: self.threads })
+                Some(CommandLine::Job {
+                    seed,
+                    threads: self.threads,
+                })
             }
             _ => None,
         }
@@ -285,7 +306,7 @@ impl<'a> Arguments<'a> {
 fn arguments_in(words: &[String]) -> Option<Arguments<'_>>
     ensures some { IfSome result (λ arguments. Gives (map string_bytes words.now) (given_of arguments)) }
     ensures none { IfNone result ((given : Given) →
-        Gives (map string_bytes words.now) given → length given.names ≤ 18 → ⊥) }
+        Gives (map string_bytes words.now) given → length given.names ≤ MAX_NAMES → ⊥) }
 {
     let mut arguments = Arguments {
         manager: None,
@@ -332,6 +353,9 @@ fn asked<'a>(word: &str, arguments: &Arguments<'a>) -> Option<CommandLine<'a>>
 pub fn read(words: &[String]) -> Option<CommandLine<'_>>
     ensures some { IfSome result (λ line. IsCommandLine (map string_bytes words.now) (command_of line)) }
     ensures none { IfNone result ((command : Command) → IsCommandLine (map string_bytes words.now) command → ⊥) }
+
+    // This follows from `some`.
+    ensures limits { IfSome result (λ line. IsWithinLimits (command_of line)) }
 {
     let (command, behind) = words.split_first()?;
     let arguments = arguments_in(behind)?;
@@ -342,5 +366,7 @@ pub fn read(words: &[String]) -> Option<CommandLine<'_>>
 pub fn one_command()
     ensures { (words : List Word) (one other : Command) →
         IsCommandLine words one → IsCommandLine words other → one ≡ other }
-{
-}
+{}
+
+#[cfg(test)]
+mod tests;

@@ -1,6 +1,6 @@
 use Rattle.std.proofs.Common.{map, length, string_bytes}
 use Rattle.rdb_runner.specs.CommandLine.{given_of}
-use Rattle.rdb_runner.proofs.Reading.{Reads}
+use Rattle.rdb_runner.proofs.CommandLineReading.{Reads}
 use Rattle.rdb_runner.proofs.command_line.arguments_in.Given as goal
 
 abbrev pub invariant-loop-first : goal.invariant-loop-first

@@ -1,4 +1,4 @@
-use Rattle.rdb_runner.proofs.Meaning.{one_line}
+use Rattle.rdb_runner.proofs.CommandLineMeaning.{one_line}
 use Rattle.rdb_runner.proofs.command_line.one_command.Goals as goal
 
 pub returns : goal.returns

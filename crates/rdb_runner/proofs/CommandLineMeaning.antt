@@ -1,12 +1,12 @@
 -- Words give one thing only, and what is given means one command.
-use Rattle.std.proofs.Common.{◌≡◌, ◌≢◌, ℕ, ◌+◌, ◌≤◌, ◌<◌, ◌⊎◌, Bool, true, false, List, [], ◌∷◌, ◌++◌, map, length, Option, Some, None, codes, slice_index, refl, sym, ap, ◌∙◌, inl, inr, subst, arith, rules, length-append}
+use Rattle.std.proofs.Common.{◌≡◌, ℕ, ◌≤◌, Bool, true, false, List, [], ◌∷◌, ◌++◌, length, Option, Some, None, codes, slice_index, refl, sym, ap, ◌∙◌, inl, inr, subst, arith}
 use Rattle.std.specs.List.{flat_map}
 use Rattle.std.specs.Option.{option_to_list}
 use Rattle.rdb_runner.specs.declared.command_line.Manager.{Manager}
 use Rattle.rdb_runner.specs.declared.command_line.Manager.TheVariants.{Mursiw, Mvcc}
 use Rattle.rdb_runner.specs.declared.command_line.Settings.{Settings}
-use Rattle.rdb_runner.specs.CommandLine.{Word, Part, Given, Gives, BeginsWith, BeginsWithAll, IsEnd, manager_in, pages_in, threads_in, name_in, flag_to_list, Command, replay, run, audit, check, job, word_of, Asks, AsksBy, IsCommandLine, HasSettings, IsManagerOf, ArePagesOf, word_of_manager}
-use Rattle.rdb_runner.proofs.Parts.{one_part, no_part, marked, same_head, same_tail}
+use Rattle.rdb_runner.specs.CommandLine.{Word, Part, Given, Gives, BeginsWithAll, IsEnd, manager_in, pages_in, threads_in, name_in, flag_to_list, Command, replay, run, audit, check, job, word_of, Asks, AsksBy, IsCommandLine, HasSettings, IsManagerOf, ArePagesOf, word_of_manager}
+use Rattle.rdb_runner.proofs.CommandLineParts.{one_part, no_part, marked, same_head, same_tail}
 
 same_end : (words ns ms : List Word) → IsEnd words ns → IsEnd words ms → ns ≡ ms
 same_end words ns ms (inl (_, a)) (inl (_, b)) = a ∙ sym b
@@ -58,13 +58,13 @@ same_given g h a b c d =
 pub one_given : (words : List Word) (g h : Given) → Gives words g → Gives words h → g ≡ h
 one_given words g h a b =
     let same : (a.parts ≡ b.parts) × (a.last_names ≡ b.last_names) =
-        one_split a.parts b.parts words a.rest b.rest a.last_names b.last_names a.split a.end b.split b.end in
+    one_split a.parts b.parts words a.rest b.rest a.last_names b.last_names a.split a.end b.split b.end in
     same_given g h
-        (same_option _ _ (sym a.manager_once ∙ ap (flat_map manager_in) same.0 ∙ b.manager_once))
-        (same_option _ _ (sym a.pages_once ∙ ap (flat_map pages_in) same.0 ∙ b.pages_once))
-        (same_flag _ _ (sym a.threads_once ∙ ap (flat_map threads_in) same.0 ∙ b.threads_once))
-        (sym a.all_names ∙ ap (λ ps. flat_map name_in ps ++ a.last_names) same.0
-            ∙ ap (λ ns. flat_map name_in b.parts ++ ns) same.1 ∙ b.all_names)
+    (same_option _ _ (sym a.manager_once ∙ ap (flat_map manager_in) same.0 ∙ b.manager_once))
+    (same_option _ _ (sym a.pages_once ∙ ap (flat_map pages_in) same.0 ∙ b.pages_once))
+    (same_flag _ _ (sym a.threads_once ∙ ap (flat_map threads_in) same.0 ∙ b.threads_once))
+    (sym a.all_names ∙ ap (λ ps. flat_map name_in ps ++ a.last_names) same.0
+    ∙ ap (λ ns. flat_map name_in b.parts ++ ns) same.1 ∙ b.all_names)
 
 -- a command takes 18 names at most
 pub few_names : (command : Command) (given : Given) → Asks command given → length given.names ≤ 18
@@ -145,6 +145,6 @@ pub no_command : (words behind : List Word) (first : Word) (given : Given) → w
 no_command words behind first given e gives none command line =
     let P : List Word → Type 0 = λ ws. Gives ws line.given in
     let same : line.given ≡ given =
-        one_given behind line.given given (subst P (same_tail (sym line.begins ∙ e)) line.gives) gives in
+    one_given behind line.given given (subst P (same_tail (sym line.begins ∙ e)) line.gives) gives in
     let Q : Given → Type 0 = λ g. Asks command g in
     none command (same_head (sym e ∙ line.begins), subst Q same line.asks)

@@ -1,5 +1,5 @@
 -- Words begin with one part at most, and their parts are told apart from each other and from `--`.
-use Rattle.std.proofs.Common.{◌≡◌, ◌≢◌, ℕ, ◌+◌, ◌≤◌, ◌<◌, ◌⊎◌, Bool, true, false, List, [], ◌∷◌, ◌++◌, map, length, Option, Some, None, codes, slice_index, IfNone, ◌==◌, if◌then◌else◌, refl, sym, ap, ◌∙◌, inl, inr, subst, arith, rules, append_assoc, length-append}
+use Rattle.std.proofs.Common.{◌≡◌, ◌≢◌, ℕ, ◌+◌, ◌<◌, List, [], ◌∷◌, ◌++◌, map, length, Option, Some, None, codes, slice_index, IfNone, ◌==◌, if◌then◌else◌, refl, sym, ap, ◌∙◌, inl, inr, subst, arith, append_assoc, length-append}
 use Rattle.std.proofs.lemmas.List.{append_cancel_left, append-nil, length-map}
 use Rattle.std.specs.List.{flat_map}
 use Rattle.std.specs.Option.{option_to_list}
@@ -46,10 +46,10 @@ pub no_equals : (option first tail : Word) (words after : List Word) → words �
     → (value : Word) (rest : List Word) → BeginsWithOption option value words rest → ⊥
 no_equals option first tail words after e front filled lacks value rest (inl b) =
     filled (append_cancel_left option tail []
-        (sym front ∙ same_head (sym e ∙ b) ∙ sym (append-nil option)))
+    (sym front ∙ same_head (sym e ∙ b) ∙ sym (append-nil option)))
 no_equals option first tail words after e front filled lacks value rest (inr b) =
     lacks value (append_cancel_left option tail (codes "=" ++ value)
-        (sym front ∙ same_head (sym e ∙ b) ∙ append_assoc option (codes "=") value))
+    (sym front ∙ same_head (sym e ∙ b) ∙ append_assoc option (codes "=") value))
 
 -- an option has one value there
 pub one_value : (option v w : Word) (words x y : List Word)
@@ -162,13 +162,20 @@ goes_by so_far given part words after b [] rest last_names e end m p t n =
     absurd (no_part part words after last_names b (let P : List Word → Type 0 = λ ws. IsEnd ws last_names in subst P (sym e) end))
 goes_by so_far given part words after b (q ∷ qs) rest last_names (between, first, others) end m p t n =
     let same : (q ≡ part) × (between ≡ after) =
-        one_part q part words between after first b (sym (marked q words between first) ∙ marked part words after b) in
+    one_part q part words between after first b (sym (marked q words between first) ∙ marked part words after b) in
     let P : Part → Type 0 = λ x. Goes so_far x after given in
     let Q : List Word → Type 0 = λ ws. BeginsWithAll qs ws rest in
     subst P same.0 (record {
-        parts = qs; rest = rest; last_names = last_names;
-        split = subst Q same.1 others; end = end;
-        managers = m; pages_values = p; flags = t; all_names = n })
+      parts = qs;
+      rest = rest;
+      last_names = last_names;
+      split = subst Q same.1 others;
+      end = end;
+      managers = m;
+      pages_values = p;
+      flags = t;
+      all_names = n;
+    })
 
 -- the next part is the one that the words begin with
 pub goes : (so_far given : Given) (part : Part) (words after : List Word) → BeginsWith part words after
@@ -190,20 +197,30 @@ pub step : (old new given : Given) (part : Part) (words after : List Word) → B
 step old new given part words after b a c =
     let g : Goes old part after given = goes old given part words after b c in
     record {
-        parts = g.parts; rest = g.rest; last_names = g.last_names; split = g.split; end = g.end;
-        managers = regroup _ _ _ _ _ a.manager_added g.managers;
-        pages_values = regroup _ _ _ _ _ a.pages_added g.pages_values;
-        flags = regroup _ _ _ _ _ a.threads_added g.flags;
-        all_names = regroup _ _ _ _ _ a.names_added (ap (λ x. old.names ++ x) (sym (append_assoc (name_in part) (flat_map name_in g.parts) g.last_names)) ∙ g.all_names) }
+      parts = g.parts;
+      rest = g.rest;
+      last_names = g.last_names;
+      split = g.split;
+      end = g.end;
+      managers = regroup _ _ _ _ _ a.manager_added g.managers;
+      pages_values = regroup _ _ _ _ _ a.pages_added g.pages_values;
+      flags = regroup _ _ _ _ _ a.threads_added g.flags;
+      all_names = regroup _ _ _ _ _ a.names_added (ap (λ x. old.names ++ x) (sym (append_assoc (name_in part) (flat_map name_in g.parts) g.last_names)) ∙ g.all_names);
+    }
 
 -- and with the part before it
 pub step_back : (old new given : Given) (part : Part) (words after : List Word) → BeginsWith part words after
     → Adds part old new → Completes new after given → Completes old words given
 step_back old new given part words after b a c =
     record {
-        parts = part ∷ c.parts; rest = c.rest; last_names = c.last_names; split = (after, b, c.split); end = c.end;
-        managers = ungroup _ _ _ _ _ a.manager_added c.managers;
-        pages_values = ungroup _ _ _ _ _ a.pages_added c.pages_values;
-        flags = ungroup _ _ _ _ _ a.threads_added c.flags;
-        all_names = ap (λ x. old.names ++ x) (append_assoc (name_in part) (flat_map name_in c.parts) c.last_names)
-            ∙ ungroup _ _ _ _ _ a.names_added c.all_names }
+      parts = part ∷ c.parts;
+      rest = c.rest;
+      last_names = c.last_names;
+      split = (after, b, c.split);
+      end = c.end;
+      managers = ungroup _ _ _ _ _ a.manager_added c.managers;
+      pages_values = ungroup _ _ _ _ _ a.pages_added c.pages_values;
+      flags = ungroup _ _ _ _ _ a.threads_added c.flags;
+      all_names = ap (λ x. old.names ++ x) (append_assoc (name_in part) (flat_map name_in c.parts) c.last_names)
+          ∙ ungroup _ _ _ _ _ a.names_added c.all_names;
+    }

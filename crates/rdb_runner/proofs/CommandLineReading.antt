@@ -1,10 +1,10 @@
 -- What the reader of the arguments keeps, and that words mean one command.
-use Rattle.std.proofs.Common.{◌≡◌, ◌≢◌, ℕ, ◌+◌, ◌≤◌, ◌<◌, ◌⊎◌, Bool, true, false, List, [], ◌∷◌, ◌++◌, map, length, Option, Some, None, codes, refl, sym, ap, ◌∙◌, inl, inr, subst, arith, rules, append_assoc, length-append}
+use Rattle.std.proofs.Common.{◌≡◌, ◌+◌, ◌≤◌, ◌<◌, Bool, true, false, List, [], ◌∷◌, ◌++◌, length, Option, Some, None, codes, refl, sym, ap, ◌∙◌, inl, inr, subst, arith, length-append}
 use Rattle.std.specs.List.{flat_map}
 use Rattle.std.specs.Option.{option_to_list}
-use Rattle.rdb_runner.specs.CommandLine.{Word, Part, manager, pages, threads, name, Given, Gives, Adds, BeginsWith, BeginsWithAll, IsEnd, manager_in, pages_in, threads_in, name_in, flag_to_list, with_names}
+use Rattle.rdb_runner.specs.CommandLine.{Word, Part, manager, pages, threads, name, Given, Gives, Adds, BeginsWith, BeginsWithAll, IsEnd, name_in, flag_to_list, with_names}
 use Rattle.std.proofs.lemmas.List.{append-nil}
-use Rattle.rdb_runner.proofs.Parts.{Completes, Goes, goes, step, step_back, no_part, same_head, same_tail}
+use Rattle.rdb_runner.proofs.CommandLineParts.{Completes, Goes, goes, step, step_back, no_part, same_head, same_tail}
 
 -- nothing is given yet
 abbrev pub nothing : Given
@@ -12,13 +12,29 @@ nothing = record { manager_value = None; pages_value = None; with_threads = fals
 
 pub starts : (words : List Word) (given : Given) → Gives words given → Completes nothing words given
 starts words given g = record {
-    parts = g.parts; rest = g.rest; last_names = g.last_names; split = g.split; end = g.end;
-    managers = g.manager_once; pages_values = g.pages_once; flags = g.threads_once; all_names = g.all_names }
+  parts = g.parts;
+  rest = g.rest;
+  last_names = g.last_names;
+  split = g.split;
+  end = g.end;
+  managers = g.manager_once;
+  pages_values = g.pages_once;
+  flags = g.threads_once;
+  all_names = g.all_names;
+}
 
 pub starts_back : (words : List Word) (given : Given) → Completes nothing words given → Gives words given
 starts_back words given c = record {
-    parts = c.parts; rest = c.rest; last_names = c.last_names; split = c.split; end = c.end;
-    manager_once = c.managers; pages_once = c.pages_values; threads_once = c.flags; all_names = c.all_names }
+  parts = c.parts;
+  rest = c.rest;
+  last_names = c.last_names;
+  split = c.split;
+  end = c.end;
+  manager_once = c.managers;
+  pages_once = c.pages_values;
+  threads_once = c.flags;
+  all_names = c.all_names;
+}
 
 -- the words give just what completes what was read with the words that are left
 pub record Reads (words : List Word) (so_far : Given) (left : List Word) : Type 0 where
@@ -31,14 +47,23 @@ reads_none words = record { sound = λ given c. starts_back words given c; compl
 pub reads_more : (words left after : List Word) (old new : Given) (part : Part) → Reads words old left
     → BeginsWith part left after → Adds part old new → Reads words new after
 reads_more words left after old new part r b a = record {
-    sound = λ given c. r.sound given (step_back old new given part left after b a c);
-    complete = λ given g. step old new given part left after b a (r.complete given g) }
+  sound = λ given c. r.sound given (step_back old new given part left after b a c);
+  complete = λ given g. step old new given part left after b a (r.complete given g);
+}
 
 -- at the end of the words, all is read
 pub completed : (given : Given) → Completes given [] given
 completed given = record {
-    parts = []; rest = []; last_names = []; split = refl; end = inl (refl, refl);
-    managers = append-nil _; pages_values = append-nil _; flags = append-nil _; all_names = append-nil _ }
+  parts = [];
+  rest = [];
+  last_names = [];
+  split = refl;
+  end = inl (refl, refl);
+  managers = append-nil _;
+  pages_values = append-nil _;
+  flags = append-nil _;
+  all_names = append-nil _;
+}
 
 pub reads_all : (words left : List Word) (given : Given) → Reads words given left → left ≡ [] → Gives words given
 reads_all words left given r e =
@@ -47,8 +72,16 @@ reads_all words left given r e =
 -- at `--`, the names behind it are left
 pub completed_by_names : (given : Given) (behind : List Word) → Completes given (codes "--" ∷ behind) (with_names given behind)
 completed_by_names given behind = record {
-    parts = []; rest = codes "--" ∷ behind; last_names = behind; split = refl; end = inr refl;
-    managers = append-nil _; pages_values = append-nil _; flags = append-nil _; all_names = refl }
+  parts = [];
+  rest = codes "--" ∷ behind;
+  last_names = behind;
+  split = refl;
+  end = inr refl;
+  managers = append-nil _;
+  pages_values = append-nil _;
+  flags = append-nil _;
+  all_names = refl;
+}
 
 pub reads_names : (words left behind : List Word) (first : Word) (so_far new : Given) → Reads words so_far left
     → left ≡ first ∷ behind → first ≡ codes "--" → new ≡ with_names so_far behind → Gives words new
@@ -56,7 +89,7 @@ reads_names words left behind first so_far new r e dashes added =
     let P : List Word → Type 0 = λ ws. Completes so_far ws (with_names so_far behind) in
     let Q : Given → Type 0 = λ g. Gives words g in
     subst Q (sym added) (r.sound (with_names so_far behind)
-        (subst P (sym (e ∙ ap (λ w. w ∷ behind) dashes)) (completed_by_names so_far behind)))
+    (subst P (sym (e ∙ ap (λ w. w ∷ behind) dashes)) (completed_by_names so_far behind)))
 
 names_at_end : (so_far given : Given) (behind : List Word) (parts : List Part) (rest last_names : List Word)
     → BeginsWithAll parts (codes "--" ∷ behind) rest → IsEnd rest last_names
@@ -80,7 +113,7 @@ pub too_many : (words left behind : List Word) (first : Word) (so_far : Given) �
 too_many words left behind first so_far r e dashes many given g few =
     let P : List Word → Type 0 = λ ws. Completes so_far ws given in
     let h : given.names ≡ so_far.names ++ behind =
-        names_behind so_far given behind (subst P (e ∙ ap (λ w. w ∷ behind) dashes) (r.complete given g)) in
+    names_behind so_far given behind (subst P (e ∙ ap (λ w. w ∷ behind) dashes) (r.complete given g)) in
     omega (arith, ap length h, length-append {A = Word})
 
 -- words that are left begin with a part or are an end
@@ -117,26 +150,38 @@ can_add : (so_far given : Given) (part : Part) (words : List Word) → Goes so_f
 can_add so_far given (manager v) words g few cannot =
     let free : so_far.manager_value ≡ None = once so_far.manager_value given.manager_value v _ g.managers in
     cannot (record so_far { manager_value = Some v }) (record {
-        manager_added = ap (λ o. option_to_list o ++ v ∷ []) (sym free);
-        pages_added = sym (append-nil _); threads_added = sym (append-nil _); names_added = sym (append-nil _) })
-        (omega (arith, ap length g.all_names, length-append {A = Word}))
+      manager_added = ap (λ o. option_to_list o ++ v ∷ []) (sym free);
+      pages_added = sym (append-nil _);
+      threads_added = sym (append-nil _);
+      names_added = sym (append-nil _);
+    })
+    (omega (arith, ap length g.all_names, length-append {A = Word}))
 can_add so_far given (pages v) words g few cannot =
     let free : so_far.pages_value ≡ None = once so_far.pages_value given.pages_value v _ g.pages_values in
     cannot (record so_far { pages_value = Some v }) (record {
-        pages_added = ap (λ o. option_to_list o ++ v ∷ []) (sym free);
-        manager_added = sym (append-nil _); threads_added = sym (append-nil _); names_added = sym (append-nil _) })
-        (omega (arith, ap length g.all_names, length-append {A = Word}))
+      pages_added = ap (λ o. option_to_list o ++ v ∷ []) (sym free);
+      manager_added = sym (append-nil _);
+      threads_added = sym (append-nil _);
+      names_added = sym (append-nil _);
+    })
+    (omega (arith, ap length g.all_names, length-append {A = Word}))
 can_add so_far given threads words g few cannot =
     let free : so_far.with_threads ≡ false = once_flag so_far.with_threads given.with_threads true _ g.flags in
     cannot (record so_far { with_threads = true }) (record {
-        threads_added = ap (λ o. flag_to_list o ++ true ∷ []) (sym free);
-        manager_added = sym (append-nil _); pages_added = sym (append-nil _); names_added = sym (append-nil _) })
-        (omega (arith, ap length g.all_names, length-append {A = Word}))
+      threads_added = ap (λ o. flag_to_list o ++ true ∷ []) (sym free);
+      manager_added = sym (append-nil _);
+      pages_added = sym (append-nil _);
+      names_added = sym (append-nil _);
+    })
+    (omega (arith, ap length g.all_names, length-append {A = Word}))
 can_add so_far given (name w) words g few cannot =
     cannot (record so_far { names = so_far.names ++ w ∷ [] }) (record {
-        manager_added = sym (append-nil _); pages_added = sym (append-nil _); threads_added = sym (append-nil _);
-        names_added = refl })
-        (omega (arith, ap length g.all_names, length-append {A = Word}))
+      manager_added = sym (append-nil _);
+      pages_added = sym (append-nil _);
+      threads_added = sym (append-nil _);
+      names_added = refl;
+    })
+    (omega (arith, ap length g.all_names, length-append {A = Word}))
 
 pub reads_no_room : (words left after : List Word) (so_far : Given) (part : Part) → Reads words so_far left
     → BeginsWith part left after
