@@ -118,10 +118,6 @@ asks_one (job m t) (job n u) given e (_, a, v, f, (_, x), _) (_, b, w, g, (_, y)
 asks_one c d given e a b = absurd (omega arith)
 
 -- the words of a command line ask for one command
-pub asks_by_one : (word : Word) (c d : Command) (given : Given) → AsksBy word given c → AsksBy word given d → c ≡ d
-asks_by_one word c d given (e, a) (f, b) =
-    asks_one c d given (ap (λ w. slice_index w 2) (sym e ∙ f)) a b
-
 pub one_line : (words : List Word) (c d : Command) → IsCommandLine words c → IsCommandLine words d → c ≡ d
 one_line words c d x y =
     let heads : word_of c ∷ x.behind ≡ word_of d ∷ y.behind = sym x.begins ∙ y.begins in

@@ -12,22 +12,26 @@ fn told(alloc: Global, texts: &[&str]) -> Result<String, AllocError> {
     }
     match read(&words) {
         None => String::from_str(alloc, "none"),
-        Some(CommandLine::Replay {
-            settings,
-            schema,
-            schedule,
-            clients,
-        }) => {
+        Some(
+            CommandLine::Replay {
+                settings,
+                schema,
+                schedule,
+                clients,
+            },
+        ) => {
             let pages = settings.pages;
             let manager = settings.manager;
             let clients = clients.as_slice();
             format!(in alloc; "replay {manager:?} {pages} {schema:?} {schedule:?} {clients:?}")
         }
-        Some(CommandLine::Run {
-            settings,
-            schema,
-            clients,
-        }) => {
+        Some(
+            CommandLine::Run {
+                settings,
+                schema,
+                clients,
+            },
+        ) => {
             let pages = settings.pages;
             let manager = settings.manager;
             let clients = clients.as_slice();
@@ -45,36 +49,72 @@ fn told(alloc: Global, texts: &[&str]) -> Result<String, AllocError> {
 fn each_command_line_asks_for_what_its_words_say(rt: HostRuntime) -> Result<(), Fail> {
     let rows: [(&[&str], &str); 34] = [
         (&["replay", "s", "h"], r#"replay Mvcc 1024 "s" "h" []"#),
-        (&["replay", "s", "h", "a"], r#"replay Mvcc 1024 "s" "h" ["a"]"#),
-        (&["replay", "s", "h", "a", "b", "a"], r#"replay Mvcc 1024 "s" "h" ["a", "b", "a"]"#),
+        (
+            &["replay", "s", "h", "a"],
+            r#"replay Mvcc 1024 "s" "h" ["a"]"#,
+        ),
+        (
+            &["replay", "s", "h", "a", "b", "a"],
+            r#"replay Mvcc 1024 "s" "h" ["a", "b", "a"]"#,
+        ),
         (&["run", "s"], r#"run Mvcc 1024 "s" []"#),
         (&["run", "s", "a", "b"], r#"run Mvcc 1024 "s" ["a", "b"]"#),
         (&["audit", "s", "r"], r#"audit "s" "r""#),
         (&["check", "s"], r#"check "s""#),
         (&["job", "7"], "job 7 false"),
         // Options stand before, between and behind the names, with `=` or without.
-        (&["replay", "--manager", "mursiw", "s", "h"], r#"replay Mursiw 1024 "s" "h" []"#),
-        (&["replay", "s", "--manager=mursiw", "h"], r#"replay Mursiw 1024 "s" "h" []"#),
-        (&["replay", "s", "h", "a", "--manager", "mvcc"], r#"replay Mvcc 1024 "s" "h" ["a"]"#),
-        (&["replay", "--pages", "3", "s", "h"], r#"replay Mvcc 3 "s" "h" []"#),
-        (&["run", "s", "a", "--pages=3", "b", "--manager=mursiw"], r#"run Mursiw 3 "s" ["a", "b"]"#),
+        (
+            &["replay", "--manager", "mursiw", "s", "h"],
+            r#"replay Mursiw 1024 "s" "h" []"#,
+        ),
+        (
+            &["replay", "s", "--manager=mursiw", "h"],
+            r#"replay Mursiw 1024 "s" "h" []"#,
+        ),
+        (
+            &["replay", "s", "h", "a", "--manager", "mvcc"],
+            r#"replay Mvcc 1024 "s" "h" ["a"]"#,
+        ),
+        (
+            &["replay", "--pages", "3", "s", "h"],
+            r#"replay Mvcc 3 "s" "h" []"#,
+        ),
+        (
+            &["run", "s", "a", "--pages=3", "b", "--manager=mursiw"],
+            r#"run Mursiw 3 "s" ["a", "b"]"#,
+        ),
         (&["job", "--threads", "7"], "job 7 true"),
         (&["job", "7", "--threads"], "job 7 true"),
         // Numbers of the whole range, with leading zeros.
         (&["run", "--pages", "1", "s"], r#"run Mvcc 1 "s" []"#),
-        (&["run", "--pages", "16384", "s"], r#"run Mvcc 16384 "s" []"#),
+        (
+            &["run", "--pages", "16384", "s"],
+            r#"run Mvcc 16384 "s" []"#,
+        ),
         (&["run", "--pages=0001", "s"], r#"run Mvcc 1 "s" []"#),
-        (&["run", "--pages", "00000000000000000000000016384", "s"], r#"run Mvcc 16384 "s" []"#),
+        (
+            &["run", "--pages", "00000000000000000000000016384", "s"],
+            r#"run Mvcc 16384 "s" []"#,
+        ),
         (&["job", "0"], "job 0 false"),
-        (&["job", "18446744073709551615"], "job 18446744073709551615 false"),
-        (&["job", "000000000000000000000000000000018446744073709551615"], "job 18446744073709551615 false"),
+        (
+            &["job", "18446744073709551615"],
+            "job 18446744073709551615 false",
+        ),
+        (
+            &["job", "000000000000000000000000000000018446744073709551615"],
+            "job 18446744073709551615 false",
+        ),
         // `--` ends the options, and names behind it have any form.
         (&["check", "--", "s"], r#"check "s""#),
         (&["check", "s", "--"], r#"check "s""#),
         (&["check", "--", "--"], r#"check "--""#),
         (&["check", "--", "-"], r#"check "-""#),
         (&["audit", "s", "--", "--pages"], r#"audit "s" "--pages""#),
-        (&["run", "--pages", "2", "--", "s", "--pages=3"], r#"run Mvcc 2 "s" ["--pages=3"]"#),
+        (
+            &["run", "--pages", "2", "--", "s", "--pages=3"],
+            r#"run Mvcc 2 "s" ["--pages=3"]"#,
+        ),
         (&["job", "--threads", "--", "7"], "job 7 true"),
         // Any other word is a name, an empty one too.
         (&["check", ""], r#"check """#),
@@ -169,8 +209,7 @@ fn sixteen_clients_are_the_most(rt: HostRuntime) -> Result<(), Fail> {
         "replay", "s", "h", "1", "2", "3", "4", "5", "6", "7", "8", "9", "10", "11", "12", "13",
         "14", "15", "16", "17",
     ];
-    assert_eq!(
-        rt;
+    assert_eq!(rt;
         told(rt.alloc(), &replay[..19])?.as_str(),
         r#"replay Mvcc 1024 "s" "h" ["1", "2", "3", "4", "5", "6", "7", "8", "9", "10", "11", "12", "13", "14", "15", "16"]"#
     );
@@ -179,8 +218,7 @@ fn sixteen_clients_are_the_most(rt: HostRuntime) -> Result<(), Fail> {
         "run", "s", "--", "1", "2", "3", "4", "5", "6", "7", "8", "9", "10", "11", "12", "13",
         "14", "15", "16", "17",
     ];
-    assert_eq!(
-        rt;
+    assert_eq!(rt;
         told(rt.alloc(), &run[..19])?.as_str(),
         r#"run Mvcc 1024 "s" ["1", "2", "3", "4", "5", "6", "7", "8", "9", "10", "11", "12", "13", "14", "15", "16"]"#
     );
