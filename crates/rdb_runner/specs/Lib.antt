@@ -6,3 +6,4 @@ pub mod PlainSchema
 pub mod Promise
 pub mod Reading
 pub mod Telling
+pub mod CommandLine

@@ -1,6 +1,7 @@
 //! The commands of the program, over files and a sink that the caller gives.
 #![tactic(auto)]
 
+pub mod command_line;
 mod decimal;
 mod front;
 mod plain_client;
