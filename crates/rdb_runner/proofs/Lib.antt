@@ -1,5 +1,8 @@
+pub mod CommandLemmas
 pub mod DecimalLemmas
+pub mod JobLemmas
 pub mod PlainClientLemmas
+pub mod PlainFits
 pub mod PlainRunLemmas
 pub mod ReadingLemmas
 pub mod TellingLemmas

@@ -1,9 +1,10 @@
 -- What one more operation adds to a run on the plain database, and that the journal of such a run is legal.
-use Rattle.std.proofs.Common.{◌≡◌, ℕ, zero, suc, ◌+◌, ◌<◌, ◌≤◌, Bool, true, false, cond, not, ◌&&◌, ◌||◌, eqb, ltb, List, [], ◌∷◌, ◌++◌, map, Option, Some, None, refl, sym, ap, ◌∙◌, subst, arith, pos}
+use Rattle.std.proofs.Common.{◌≡◌, ℕ, length, ◌+◌, ◌<◌, ◌≤◌, Bool, true, false, cond, not, ◌&&◌, ◌||◌, eqb, ltb, List, [], ◌∷◌, ◌++◌, map, Option, Some, None, refl, sym, ap, ◌∙◌, subst, arith, pos}
 use Rattle.std.specs.Option.{option_map, option_map_or}
 use Rattle.std.specs.List.{list_any}
 use Rattle.std.specs.Cmp.{IsTotalOrder}
-use Rattle.std.specs.Prelude.{IsSome, All}
+use Rattle.std.specs.Prelude.{IsSome, nat_eq}
+use Rattle.std.specs.Cmp.Lexicographic.{pointwise}
 use Rattle.std.proofs.lemmas.Bool.{false≢true}
 use Rattle.std.proofs.lemmas.Bool.Decides.{nat_tests}
 use Rattle.std.proofs.lemmas.Cmp.{tied_itself}
@@ -83,9 +84,77 @@ same_reply-refl total reply.End = refl
 same_reply-refl total (reply.Count a) = eqb-refl a
 
 -- each object made so far has an id below the next
-AllBelow : List (ℕ × ℕ) → ℕ → Type 0
+abbrev pub AllBelow : List (ℕ × ℕ) → ℕ → Type 0
 AllBelow [] next = Unit {0}
 AllBelow (m ∷ made) next = (m.1 < next) × AllBelow made next
 
-unfolding_below : (made : List (ℕ × ℕ)) (next : ℕ) → Unit {0}
-unfolding_below made next = tt
+below_more : (made : List (ℕ × ℕ)) (next id : ℕ) → id ≡ next → AllBelow made next → AllBelow (made ++ (0, id) ∷ []) (next + 1)
+below_more [] next id e h = (omega arith, tt)
+below_more (m ∷ made) next id e h = (omega (arith, h.0), below_more made next id e h.1)
+
+below_same : (made : List (ℕ × ℕ)) (next : ℕ) → AllBelow made next → AllBelow (made ++ []) next
+below_same [] next h = tt
+below_same (m ∷ made) next h = (h.0, below_same made next h.1)
+
+eqb-above : (a b : ℕ) → a < b → eqb a b ≡ false
+eqb-above a b h = grind (arith, nat_tests)
+
+and_false : (b : Bool) → (b && false) ≡ false
+and_false true = refl
+and_false false = refl
+
+new_made : (made : List (ℕ × ℕ)) (next id : ℕ) → id ≡ next → AllBelow made next → was_made made (0, id) ≡ false
+new_made [] next id e h = refl
+new_made (m ∷ made) next id e h =
+    ap (λ (b : Bool). (eqb m.0 0 && b) || was_made made (0, id)) (eqb-above m.1 id (omega (arith, h.0)))
+    ∙ ap (λ (b : Bool). b || was_made made (0, id)) (and_false (eqb m.0 0)) ∙ new_made made next id e h.1
+
+same_number : (a b : ℕ) → eqb a b ≡ true → b ≡ a
+same_number a b h = grind (arith, nat_tests)
+
+-- each operation of the steps is answered by the plain database, and makes a new object
+pub none_wrong : (d c f : List ℕ) (steps : List PlainStep) (next first : ℕ) (db mid : Database) (done : List (Op × Reply)) (made : List (ℕ × ℕ)) → map (λ (x : Op × Reply). x.0) done ≡ numbered next steps → run (schema_of d c f) db done ≡ Some mid → AllBelow made next → wrong_reply (schema_of d c f) db made first done ≡ None
+none_wrong d c f [] next first db mid [] made e r h = refl
+none_wrong d c f [] next first db mid (x ∷ done) made e r h = cc
+none_wrong d c f (New number ∷ steps) next first db mid [] made e r h = cc
+none_wrong d c f (Get id ∷ steps) next first db mid [] made e r h = cc
+none_wrong d c f (New number ∷ steps) next first db mid ((o, told) ∷ done) made e r h =
+    let is : o ≡ operation_of next (New number) = cc in
+    let others : map (λ (x : Op × Reply). x.0) done ≡ numbered (next + 1) steps = cc in
+    subst (λ (p : Op). wrong_reply (schema_of d c f) db made first ((p, told) ∷ done) ≡ None) (sym is)
+    (by_reply told (subst (λ (p : Op). run (schema_of d c f) db ((p, told) ∷ done) ≡ Some mid) is r) others)
+  where
+    by_reply : (told : Reply) → run (schema_of d c f) db ((operation_of next (New number), told) ∷ done) ≡ Some mid → map (λ (x : Op × Reply). x.0) done ≡ numbered (next + 1) steps → wrong_reply (schema_of d c f) db made first ((operation_of next (New number), told) ∷ done) ≡ None
+    by_reply (reply.Made m) r others =
+        let after = (answer (schema_of d c f) db (operation_of next (New number))).1 in
+        let t = taken (eqb next m) (run (schema_of d c f) after done) mid r in
+        let at = same_number next m t.0 in
+        (λ i. cond (t.0 i && not (new_made made next m at h i)) (wrong_reply (schema_of d c f) after (made ++ (0, m) ∷ []) (first + 1) done) (Some first))
+        ∙ none_wrong d c f steps (next + 1) (first + 1) after mid done (made ++ (0, m) ∷ []) others t.1 (below_more made next m at h)
+    by_reply (reply.Row row) r others = let no : None ≡ Some mid = r in cc
+    by_reply reply.Done r others = let no : None ≡ Some mid = r in cc
+    by_reply reply.NotFound r others = let no : None ≡ Some mid = r in cc
+    by_reply (reply.Duplicate i id) r others = let no : None ≡ Some mid = r in cc
+    by_reply (reply.Ids ids) r others = let no : None ≡ Some mid = r in cc
+    by_reply (reply.At key id) r others = let no : None ≡ Some mid = r in cc
+    by_reply reply.End r others = let no : None ≡ Some mid = r in cc
+    by_reply (reply.Count n) r others = let no : None ≡ Some mid = r in cc
+none_wrong d c f (Get id ∷ steps) next first db mid ((o, told) ∷ done) made e r h =
+    let is : o ≡ operation_of next (Get id) = cc in
+    let others : map (λ (x : Op × Reply). x.0) done ≡ numbered next steps = cc in
+    let ran : run (schema_of d c f) db ((operation_of next (Get id), told) ∷ done) ≡ Some mid = subst (λ (p : Op). run (schema_of d c f) db ((p, told) ∷ done) ≡ Some mid) is r in
+    let found = (answer (schema_of d c f) db (operation_of next (Get id))).0 in
+    let t = taken (same_reply found told) (run (schema_of d c f) db done) mid ran in
+    subst (λ (p : Op). wrong_reply (schema_of d c f) db made first ((p, told) ∷ done) ≡ None) (sym is)
+    (ap (λ (b : Bool). cond (b && true) (wrong_reply (schema_of d c f) db (made ++ []) (first + 1) done) (Some first)) t.0
+     ∙ none_wrong d c f steps next (first + 1) db mid done (made ++ []) others t.1 (below_same made next h))
+
+some_of : (o : Option Database) → IsSome o → (mid : Database) × (o ≡ Some mid)
+some_of None h = absurd h
+some_of (Some mid) h = (mid, refl)
+
+-- the journal of such a client is legal
+pub journal_is_legal : (d c f : List ℕ) (steps : List PlainStep) (done : List (Op × Reply)) → AreAnswered (schema_of d c f) steps done → IsLegal (schema_of d c f) (journal_of done)
+journal_is_legal d c f steps done a =
+    let ran = some_of (run (schema_of d c f) (empty 1) done) a.runs in
+    ap (λ (w : Option ℕ). option_map_or (legality.Illegal 1) (option_map why.Reply w) legality.Legal) (none_wrong d c f steps 1 1 (empty 1) ran.0 done [] a.operations ran.1 tt)

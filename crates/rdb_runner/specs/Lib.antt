@@ -1,4 +1,5 @@
 pub mod Decimal
+pub mod Job
 pub mod PlainClient
 pub mod PlainReport
 pub mod PlainSchedule
@@ -6,4 +7,5 @@ pub mod PlainSchema
 pub mod Promise
 pub mod Reading
 pub mod Telling
+pub mod Command
 pub mod CommandLine

@@ -11,8 +11,9 @@ use Rattle.rdb_runner.specs.declared.plain_client.PlainStep.{PlainStep}
 use Rattle.rdb_runner.specs.PlainReport.{IsReportOf}
 use Rattle.rdb_runner.specs.PlainSchedule.{is_plain_schedule}
 use Rattle.rdb_runner.specs.PlainSchema.{IsSchemaText}
+use Rattle.rdb_runner.specs.declared.reading.TheConstants.{FILE_LIMIT}
 use Rattle.rdb_runner.specs.Reading.{Sight, Asks, AreBytesOf, CannotRead}
-use Rattle.rdb_runner.specs.Telling.{Ink, Tells, IsSilent}
+use Rattle.rdb_runner.specs.Telling.{Ink, Tells, Writes, IsCutOff, IsSilent}
 
 -- the three names of a job's files: its schema, its schedule and its client
 abbrev pub names_of : List ℕ → List ℕ → List ℕ → List (List ℕ)
@@ -45,8 +46,7 @@ IsNoClient schema_text text = (database class field : List ℕ) × IsSchemaText 
 abbrev pub IsFirstOther : List ℕ → List ℕ → List ℕ → ℕ → Type 0
 IsFirstOther schema schedule client place =
     ((place ≡ 0) × IsNoSchema schema)
-    ⊎ ((place ≡ 1) × (is_plain_schedule schedule ≡ false))
-    ⊎ ((place ≡ 2) × IsNoClient schema client)
+    ⊎ (((place ≡ 1) × (is_plain_schedule schedule ≡ false)) ⊎ ((place ≡ 2) × IsNoClient schema client))
 
 -- what the work on three texts gives: the report's lines, or the first text that isn't of the simplest form
 abbrev pub IsWork : List ℕ → List ℕ → List ℕ → Result (List (List ℕ)) NoReport → Type 0
@@ -63,11 +63,35 @@ IsNotBuilt names sight text =
 -- which status is due for a job, and with which text
 abbrev pub JobOwes : List (List ℕ) → Sight → ℕ → List ℕ → Type 0
 JobOwes names sight status text =
-    ((status ≡ 0) × IsDone names sight text) ⊎ ((status ≡ 3) × IsUnreadable names sight text) ⊎ ((status ≡ 10) × IsNotBuilt names sight text)
+    ((status ≡ 0) × IsDone names sight text) ⊎ (((status ≡ 3) × IsUnreadable names sight text) ⊎ ((status ≡ 10) × IsNotBuilt names sight text))
 
 -- the names that a call asked are the first of these
 abbrev pub AsksFirst : Sight → List (List ℕ) → Type 0
 AsksFirst sight names = (asked : ℕ) × (asked ≤ length names) × Asks sight (take asked names)
+
+-- the files tell these texts, and each is of the simplest form
+pub record ArePlain (names : List (List ℕ)) (sight : Sight) : Type 0 where
+  pub schema_name : List ℕ
+  pub schedule_name : List ℕ
+  pub client_name : List ℕ
+  pub named : names ≡ names_of schema_name schedule_name client_name
+  pub schema_text : List ℕ
+  pub schedule_text : List ℕ
+  pub client_text : List ℕ
+  pub schema_told : sight.told schema_name ≡ Some schema_text
+  pub schedule_told : sight.told schedule_name ≡ Some schedule_text
+  pub client_told : sight.told client_name ≡ Some client_text
+  pub database : List ℕ
+  pub class : List ℕ
+  pub field : List ℕ
+  pub steps : List PlainStep
+  pub schema_plain : IsSchemaText schema_text database class field
+  pub schedule_plain : is_plain_schedule schedule_text ≡ true
+  pub client_plain : IsClientOf class client_text steps
+
+-- one of the files is told to be longer than the limit
+abbrev pub HasTooLong : List (List ℕ) → Sight → Type 0
+HasTooLong names sight = (place : ℕ) × (name : List ℕ) × (there : List ℕ) × (slice_get names place ≡ Some name) × (sight.told name ≡ Some there) × (FILE_LIMIT < length there)
 
 -- what a job's work gives: the report's lines, or the first file that can't be read or isn't of the simplest form
 abbrev pub IsJobWork : List (List ℕ) → Sight → Result (List (List ℕ)) Halt → Type 0
@@ -83,4 +107,12 @@ IsJobWork names sight (Err halt.NoMemory) = sight.faults_then ≡ sight.faults
 pub record JobEnds (names : List (List ℕ)) (sight : Sight) (ink : Ink) (result : ℕ) : Type 0 where
   pub asked : AsksFirst sight names
   pub told : ((status : ℕ) × (text : List ℕ) × JobOwes names sight status text × Tells ink status text result)
-    ⊎ ((result ≡ 8) × IsSilent ink × (sight.faults_then ≡ sight.faults))
+    ⊎ ((result ≡ 8) × IsSilent ink)
+
+-- the text was written whole, and it is due by this fact
+abbrev pub Shows : Ink → (List ℕ → Type 0) → Type 0
+Shows ink Due = (text : List ℕ) × Due text × Writes ink text
+
+-- a write failed, and what was written is a prefix of a text that was due
+abbrev pub IsInterrupted : List (List ℕ) → Sight → Ink → Type 0
+IsInterrupted names sight ink = (status : ℕ) × (text : List ℕ) × JobOwes names sight status text × IsCutOff ink text

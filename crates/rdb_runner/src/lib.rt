@@ -9,5 +9,8 @@ mod plain_run;
 mod plain_schedule;
 mod plain_schema;
 pub mod reading;
+pub mod region;
 pub mod replay;
 mod telling;
+#[cfg(test)]
+mod tests;

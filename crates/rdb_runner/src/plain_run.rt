@@ -1,7 +1,8 @@
 //! Runs a client of the simplest form on the plain database. It touches nothing but the memory that it takes.
 
-ghost use Rattle.std.specs.Prelude.{◌≡◌, ◌+◌, ◌<◌, ◌≤◌, ◌^◌, [], ◌∷◌, length, IfOk};
+ghost use Rattle.std.specs.Prelude.{◌≡◌, ◌+◌, ◌<◌, ◌≤◌, ◌^◌, [], ◌∷◌, length, IfOk, All};
 ghost use Rattle.std.specs.List.{AllByRecursion};
+ghost use Rattle.rdb_journal.specs.Lines.{StepNamesExist, NamesExist};
 ghost use Rattle.rdb_runner.specs.PlainClient.{IsStep, operation_of, made_by};
 ghost use Rattle.rdb_runner.specs.PlainReport.{AreAnswered, IsJournalOf};
 ghost use Rattle.rdb_runner.specs.PlainSchema.{schema_of, IsPlain};
@@ -11,6 +12,7 @@ use crate::plain_schema::PlainSchema;
 use rdb_base::journal::{Done, Entry, Journal, Story};
 use rdb_base::list::{List, NoMemory};
 use rdb_base::operation::Op;
+use rdb_base::order::order_is_total;
 use rdb_base::text::Text;
 use rdb_base::value::{Leaf, Value};
 use rdb_model::db::Db;
@@ -82,8 +84,10 @@ fn answered(alloc: Global, schema: &Schema, steps: &List<PlainStep>) -> Result<D
     requires plain { IsPlain schema.now }
     requires few { length steps.now ≤ 1000 }
     requires each { AllByRecursion IsStep steps.now }
-    ensures { IfOk result (λ done. AreAnswered schema.now steps.now done) }
+    ensures answered { IfOk result (λ done. AreAnswered schema.now steps.now done) }
+    ensures named { IfOk result (λ done. AllByRecursion (StepNamesExist schema.now) done) }
 {
+    order_is_total();
     let mut db = Db::empty(alloc, 1)?;
     let mut done = List::new(alloc);
     let mut next = 1;
@@ -105,7 +109,8 @@ pub fn plain_journal(
     requires plain { IsPlain schema.now }
     requires few { length steps.now ≤ 1000 }
     requires each { AllByRecursion IsStep steps.now }
-    ensures { IfOk result (λ journal. IsJournalOf schema.now steps.now journal) }
+    ensures made { IfOk result (λ journal. IsJournalOf schema.now steps.now journal) }
+    ensures named { IfOk result (λ journal. All (NamesExist schema.now) journal) }
 {
     let story = Story {
         client: 1,

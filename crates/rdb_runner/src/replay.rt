@@ -1,14 +1,15 @@
 //! The command `replay`: reads the files of a job, runs its client and writes the report.
 //! It touches the caller's files and sink alone.
 
-ghost use Rattle.std.specs.Prelude.{◌≡◌, ◌≤◌, ◌<◌, length, IfOk, slice_index_or, [], slice_get, Some};
+ghost use Rattle.std.specs.Prelude.{◌≡◌, ◌≢◌, ◌≤◌, ◌<◌, [], ◌∷◌, length, Contains, IfOk, Some, slice_get};
 ghost use Rattle.std.specs.List.{concat, AllByRecursion};
 ghost use Rattle.rdb_runner.specs.PlainClient.{IsStep};
 ghost use Rattle.rdb_runner.specs.PlainReport.{IsPrinted};
 ghost use Rattle.rdb_runner.specs.PlainSchema.{schema_of};
-ghost use Rattle.rdb_runner.specs.Promise.{IsWork, IsJobWork, AsksFirst, JobEnds, names_of};
+ghost use Rattle.rdb_runner.specs.Job.{files_of};
+ghost use Rattle.rdb_runner.specs.Promise.{IsWork, IsJobWork, AsksFirst, JobEnds, names_of, Shows, IsDone, IsUnreadable, IsNotBuilt, IsInterrupted, HasTooLong, ArePlain};
 ghost use Rattle.rdb_runner.specs.Reading.{sight_of};
-ghost use Rattle.rdb_runner.specs.Telling.{ink_of};
+ghost use Rattle.rdb_runner.specs.Telling.{IsSilent, ink_of};
 
 use crate::plain_client::{PlainStep, read_plain_client};
 use crate::plain_run::{build_schema, plain_journal};
@@ -170,4 +171,44 @@ fn end_job<F: Files, K: Sink>(
         }
         Err(Halt::NoMemory) => NO_MEMORY,
     }
+}
+
+/// Replays a job: reads its files in order, runs its client and writes the report. Until other forms are built it is
+/// for jobs with one client, whose files are of the simplest form. The cost grows with the files and the report.
+///
+/// The status is 0 where all is done, 3 where a file can't be read, 10 where a file isn't of the simplest form, 7 where a
+/// write failed and 8 where memory was wanting.
+pub fn replay<F: Files, K: Sink>(alloc: Global, job: &Job, files: &mut F, out: &mut K) -> u8
+    requires pages { (1 ≤ job.now.pages) × (job.now.pages ≤ 16384) }
+    requires one_client { length job.now.clients ≡ 1 }
+    ensures statuses { Contains (0 ∷ 3 ∷ 7 ∷ 8 ∷ 10 ∷ []) result }
+
+    // 0: the text is the report, and all of it was written.
+    ensures done { result ≡ 0 → Shows (ink_of K.written K.faults out.old out.new)
+        (IsDone (files_of job.now) (sight_of F.told F.asked F.faults files.old files.new)) }
+
+    // 3: exactly where a read failed or a file is too long.
+    ensures unreadable { result ≡ 3 → Shows (ink_of K.written K.faults out.old out.new)
+        (IsUnreadable (files_of job.now) (sight_of F.told F.asked F.faults files.old files.new)) }
+    ensures failed_read { F.faults files.old < F.faults files.new → Contains (3 ∷ 7 ∷ 8 ∷ []) result }
+    ensures too_long { HasTooLong (files_of job.now) (sight_of F.told F.asked F.faults files.old files.new) → Contains (3 ∷ 7 ∷ 8 ∷ []) result }
+
+    // 10: never for files of the simplest form.
+    ensures not_built { result ≡ 10 → Shows (ink_of K.written K.faults out.old out.new)
+        (IsNotBuilt (files_of job.now) (sight_of F.told F.asked F.faults files.old files.new)) }
+    ensures plain { ArePlain (files_of job.now) (sight_of F.told F.asked F.faults files.old files.new) → result ≢ 10 }
+
+    // 7: only where a write failed, and a prefix of what was due is written. 8: nothing is written.
+    ensures interrupted { result ≡ 7 → IsInterrupted (files_of job.now) (sight_of F.told F.asked F.faults files.old files.new)
+        (ink_of K.written K.faults out.old out.new) }
+    ensures memory { result ≡ 8 → IsSilent (ink_of K.written K.faults out.old out.new) }
+
+    // The files are asked in order, none twice.
+    ensures asked { AsksFirst (sight_of F.told F.asked F.faults files.old files.new) (files_of job.now) }
+    ensures ends { JobEnds (files_of job.now) (sight_of F.told F.asked F.faults files.old files.new) (ink_of K.written K.faults out.old out.new) result }
+{
+    let schema = job.schema.as_str();
+    let schedule = job.schedule.as_str();
+    let client = job.clients.at(0).as_str();
+    end_job(alloc, files, out, schema, schedule, client)
 }
