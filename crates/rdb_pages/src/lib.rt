@@ -1,0 +1,16 @@
+//! The pages of a region: cells of 64 bytes in pages of 64, which hold nothing until they are claimed.
+#![tactic(auto)]
+
+mod block;
+mod cell;
+mod pages;
+mod raw_pages;
+#[cfg(test)]
+mod tests;
+
+// A contract can name a `RawPages` only if the types of its fields are exported.
+#[doc(hidden)]
+pub use block::{Block, Deed};
+pub use cell::{Cell, CellRef, PAGE_CELLS};
+pub use pages::Pages;
+pub use raw_pages::RawPages;
