@@ -2,6 +2,7 @@
 --     block_had, block_made        a block by value
 --     block_opens, block_closes    one behind a `&mut`
 --     block_shown                  one behind a `&`
+--     start_in, start_out          its pointer is looked at there, and given back
 --     alone                        a value of any type is one machine value, of its type
 use mathlib.Core.Path.{◌≡◌, refl, sym, ap, ◌∙◌}
 use Prim.Native.Nat.{ℕ, ◌+◌, ◌*◌, ◌<◌, ◌^◌}
@@ -11,20 +12,22 @@ use seplogic.Ra.Ura.{Ura}
 use base.Fraction.{full_share}
 use base.Stored.{Gv}
 use base.Logic.{ent, sep, id⊢, never}
-use base.Fml.{Lft, GName, Share, fsep, fhide, flft, fobs, fauth, fbor, fobor}
-use mir.Syntax.{Args, Ty, a_type}
+use base.Fml.{Lft, GName, Share, fat, fsep, fhide, flft, fobs, fauth, fbor, fobor}
+use mir.Syntax.{Args, a_type, ty_ptr}
 use mir.Val.{Val, vptr, vstruct, vcons, vnil, of_list}
 use types.Logic.{Logic, sem}
 use types.Kit.{Goal, Soaks, Step, step, Seq, Item, ‵, ◌⊛◌, ◌$◌, ◌∵◌, !, qed, move, keep, drop, use1, split, rewrite, fsplit, fjoin, fpick, fpack, feq_l, feq_i, flt_l, flt_i, done}
 use types.SemTy.{Body}
 use denote.RattleType.{RattleType, Valss}
+use denote.Copied.{plain_Copied}
 use denote.Laws.{Typed, Is}
-use denote.Memory.{cell_at, mem, hidden_shr}
-use denote.Opens.{unhide}
+use denote.Memory.{cell_at, mem, part_at, hidden_shr}
+use denote.Opens.{Shut, unhide}
 use denote.Param.{layouts}
 use denote.Param.Laws.{param_laws}
-use denote.RawPtr.{Ptr, RawPtr, block_ptr, ptr_val, in_a_block}
-use denote.Steps.{opens, closes, nothing}
+use denote.RawPtr.{Ptr, RawPtr, block_ptr, coded_ptr, ptr_own, ptr_val, rawptr_pure, in_a_block}
+use denote.Steps.{opens, closes, looks, shuts, nothing}
+use denote.Struct.Laws.{RawPtr-laws}
 use denote.Struct.Lending.{lent_out}
 use denote.Struct.Owning.{Owning, shape}
 use denote.Struct.Struct.{Struct, within}
@@ -91,6 +94,19 @@ module _ (E : El) {M : Type 1} {𝓤 : Ura M} (𝓛 : Logic 𝓤) (κ : Lft) whe
   block_shown d rb ro = qed 𝓛 (‵ (hidden_shr (Br E) κ d rb ro) ∷ []) ∵
       use1 𝓛 (‵ (hidden_shr (Start E) κ (d.start, tt) rb ro) ⊛ ‵ (fhide (B.the_lent (R E) d d.start κ))) (lent_out 𝓛 (B.struct (R E)) (B.the_codes (el_x E) (R E).coded) (B.the_heap (R E)) (B.the_lent (R E)) κ d rb ro) $ split ! $
       unhide ! $ fsplit ! $ fsplit ! $ keep ! (0 ∷ 3 ∷ []) $ done !
+
+module _ {M : Type 1} {𝓤 : Ura M} {𝓛 : Logic 𝓤} {K : Type 0} {Γ : List (Item 𝓤)} {G : Goal 𝓤 𝓛.H} where
+  -- [the pointer; the way back]
+  pub start_in : K → Soaks G → {κ : Lft} {q : Share} (p : Ptr) (b o : ℕ) → p ≡ block_ptr b o → (rb ro : ℕ)
+      → ((q' : Share) → Seq K 𝓛 (‵ (fat q' ty_ptr rb ro (vptr b o)) ∷ Shut 𝓛 κ q (part_at RawPtr q' p rb ro) ∷ Γ) G) → Seq K 𝓛 (‵ (hidden_shr RawPtr κ p rb ro) ∷ ‵ (flft κ q) ∷ Γ) G
+  start_in t z p b o at rb ro k =
+      looks t z RawPtr (plain_Copied 𝓛 Ptr coded_ptr (ty_ptr ∷ []) ptr_own rawptr_pure ptr_val RawPtr-laws.tells).opens p rb ro (λ q' vs. move t (1 ∷ []) $ feq_l t (λ e.
+      rewrite t 0 (λ (us : List Val). ‵ (cell_at q' RawPtr.mir us rb ro)) (e ∙ ap (λ (r : Ptr). ptr_val r ∷ []) at) refl $ move t (2 ∷ []) $ drop t $ k q'))
+
+  pub start_out : K → Soaks G → {κ : Lft} {q q' : Share} (p : Ptr) (b o : ℕ) → p ≡ block_ptr b o → (rb ro : ℕ)
+      → Step K 𝓛 (‵ (flft κ q) ∷ Γ) G (‵ (fat q' ty_ptr rb ro (vptr b o)) ∷ Shut 𝓛 κ q (part_at RawPtr q' p rb ro) ∷ Γ) G
+  start_out t z {q' = q'} p b o at rb ro = step (λ s.
+      feq_i t (List Val) (vptr b o ∷ []) (ptr_val p ∷ []) (ap (λ (r : Ptr). ptr_val r ∷ []) (sym at)) $ move t (1 ∷ 0 ∷ []) $ shuts t z RawPtr q' p (vptr b o ∷ []) rb ro $ s)
 
 one_val : (E : El) (vs : List Val) → Typed (elτ E ∷ []) vs → (v : Val) × (vs ≡ v ∷ []) × Good E v
 one_val E [] t = absurd t
