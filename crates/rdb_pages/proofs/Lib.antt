@@ -2,3 +2,4 @@ pub mod Deeds
 pub mod Lending
 pub mod Opened
 pub mod Places
+pub mod Regions

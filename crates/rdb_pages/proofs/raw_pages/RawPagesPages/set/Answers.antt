@@ -1,0 +1,26 @@
+use Rattle.std.proofs.Common.{◌≡◌, ℕ, List, Option, Some, slice_get, set, refl, sym, ap, ◌∙◌, subst, length-set}
+use Rattle.std.specs.Option.{IsSome}
+use Rattle.rdb_pages.specs.Pages.{page_of, cells_of}
+use Rattle.rdb_pages.specs.declared.cell.Cell.{Cell}
+use Rattle.rdb_pages.proofs.Regions.{IsRegion-set, claimed_page, page_length, table-written}
+use Rattle.rdb_pages.proofs.raw_pages.RawPagesPages.set.Goals as goal
+
+pub get_mut-requires : goal.get_mut-requires
+get_mut-requires c =
+    let held = c.self.inside.block.held in
+    claimed_page held c.page.result (subst (λ (p : ℕ). IsSome (cells_of held p)) (sym c.page.ensures) (subst (λ (h : List (Option (List Cell))). IsSome (cells_of h (page_of c.args.at))) (sym c.self.view_is) c.requires.1))
+
+pub invariant_of-self : goal.invariant_of-self
+invariant_of-self c =
+    let i = c.self.invariant in let held = c.self.inside.block.held in let xs = c.get_mut.result.now in let place = c.place-place.result in let page = c.page.result in
+    let cells : List Cell = set xs place c.args.cell in let there = c.get_mut.ensures.value in
+    record {
+      region = IsRegion-set held page cells i.region (length-set xs place c.args.cell ∙ page_length held page xs i.region there);
+      table = i.table ∙ table-written held page xs cells there;
+      deed = (i.deed.0, i.deed.1 ∙ sym (length-set held page (Some cells)), i.deed.2);
+    }
+
+pub returns-clause-region : goal.returns-clause-region
+returns-clause-region c =
+    let i = c.self.invariant in let held = c.self.inside.block.held in let xs = c.get_mut.result.now in let place = c.place-place.result in let page = c.page.result in
+    IsRegion-set held page (set xs place c.args.cell) i.region (length-set xs place c.args.cell ∙ page_length held page xs i.region c.get_mut.ensures.value)
