@@ -1,3 +1,4 @@
+pub mod Crossing
 pub mod Deeds
 pub mod Lending
 pub mod Opened

@@ -2,8 +2,8 @@
 use Rattle.std.proofs.Common.{◌≡◌, ℕ, zero, suc, ◌+◌, ◌-◌, ◌/◌, ◌%◌, ◌<◌, ◌≤◌, ◌⊎◌, inl, inr, List, [], ◌∷◌, length, map, set, get_or, replicate, Bool, true, false, Option, Some, None, slice_get, refl, sym, ap, ◌∙◌, subst, arith, length-set}
 use Rattle.std.proofs.lemmas.List.{length-replicate}
 use Rattle.std.proofs.lemmas.Option.{slice_get-get_or}
-use Rattle.std.specs.Option.{is_some, option_and_then, option_flatten, IsSome}
-use Rattle.rdb_pages.specs.Pages.{place_of, page_of, cells_of, cell_of, IsRegion}
+use Rattle.std.specs.Option.{is_some, option_and_then, option_flatten}
+use Rattle.rdb_pages.specs.Pages.{place_of, page_of, cells_of, cell_of, IsClaimed, IsUnclaimed, IsRegion}
 use Rattle.rdb_pages.specs.declared.cell.Cell.{Cell}
 use Rattle.rdb_pages.specs.declared.cell.CellRef.{CellRef}
 
@@ -53,11 +53,18 @@ table-written (x ∷ held) zero xs cells e = let is : x ≡ Some xs = cc in ap (
 table-written (x ∷ held) (suc page) xs cells e = ap (λ (bs : List Bool). is_some x ∷ bs) (table-written held page xs cells e)
 
 -- a claimed page is there
-pub claimed_page : (held : Held) (page : ℕ) → IsSome (cells_of held page) → (xs : List Cell) × (slice_get held page ≡ Some (Some xs))
+pub claimed_page : (held : Held) (page : ℕ) → IsClaimed held page → (xs : List Cell) × (slice_get held page ≡ Some (Some xs))
 claimed_page [] page e = absurd cc
 claimed_page (None ∷ held) zero e = absurd cc
 claimed_page (Some xs ∷ held) zero e = (xs, refl)
 claimed_page (x ∷ held) (suc page) e = claimed_page held page e
+
+-- and an unclaimed one holds nothing
+pub unclaimed_page : (held : Held) (page : ℕ) → IsUnclaimed held page → slice_get held page ≡ Some None
+unclaimed_page [] page e = absurd (omega (arith, e.0))
+unclaimed_page (None ∷ held) zero e = refl
+unclaimed_page (Some xs ∷ held) zero e = let no = e.1 in absurd cc
+unclaimed_page (x ∷ held) (suc page) e = unclaimed_page held page (omega (arith, e.0), e.1)
 
 cells_of-claimed : (held : Held) (page : ℕ) (xs : List Cell) → slice_get held page ≡ Some (Some xs) → cells_of held page ≡ Some xs
 cells_of-claimed held page xs e = ap option_flatten e

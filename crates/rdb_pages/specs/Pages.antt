@@ -1,5 +1,5 @@
 -- A region seen as the list of its pages: a claimed page is the list of its 64 cells, an unclaimed one is `None`.
-use Rattle.std.specs.Prelude.{◌≡◌, ℕ, ◌+◌, ◌*◌, ◌/◌, ◌%◌, ◌-◌, ◌<◌, ◌≤◌, List, length, replicate, slice_get, slice_set, Option, Some, IsSome}
+use Rattle.std.specs.Prelude.{◌≡◌, ℕ, ◌+◌, ◌*◌, ◌/◌, ◌%◌, ◌-◌, ◌<◌, ◌≤◌, List, length, replicate, slice_get, slice_set, Option, Some, Bool, true, false, is_some}
 use Rattle.std.specs.Option.{option_and_then, option_flatten, option_map, ForSome}
 use Rattle.rdb_pages.specs.declared.cell.Cell.{Cell}
 use Rattle.rdb_pages.specs.declared.cell.CellRef.{CellRef}
@@ -28,9 +28,17 @@ ref_of page place = record { number = 1 + 64 * page + place }
 abbrev pub cells_of : List (Option (List Cell)) → ℕ → Option (List Cell)
 cells_of held page = option_flatten (slice_get held page)
 
+-- the page is claimed
+abbrev pub IsClaimed : List (Option (List Cell)) → ℕ → Type 0
+IsClaimed held page = is_some (cells_of held page) ≡ true
+
+-- the page is one of these, and not yet claimed
+abbrev pub IsUnclaimed : List (Option (List Cell)) → ℕ → Type 0
+IsUnclaimed held page = (page < length held) × (is_some (cells_of held page) ≡ false)
+
 -- at names a cell of a claimed page
 abbrev pub NamesCell : List (Option (List Cell)) → CellRef → Type 0
-NamesCell held at = (0 < at.number) × IsSome (cells_of held (page_of at))
+NamesCell held at = (0 < at.number) × IsClaimed held (page_of at)
 
 -- the cell that at names
 abbrev pub cell_of : List (Option (List Cell)) → CellRef → Option Cell

@@ -49,7 +49,12 @@ pub(crate) fn reserve<T, A: Allocator>(
     match alloc.allocate(len * size_of::<T>(), align_of::<T>()) {
         Ok(bytes) => {
             let start = bytes as *mut T;
-            Ok((Block { start }, Deed { marker: PhantomData }))
+            Ok((
+                Block { start },
+                Deed {
+                    marker: PhantomData,
+                },
+            ))
         }
         Err(error) => Err(error),
     }

@@ -1,7 +1,7 @@
 //! What the crates above know of a region's pages.
-ghost use Rattle.std.specs.Prelude.{◌≡◌, ◌<◌, List, Option, Some, None, length, slice_get, slice_set, is_some, option_and_then};
+ghost use Rattle.std.specs.Prelude.{◌≡◌, ◌<◌, List, Option, Some, length, slice_set, is_some};
 ghost use Rattle.rdb_pages.specs.declared.cell.Cell.{Cell as CellValue};
-ghost use Rattle.rdb_pages.specs.Pages.{cells_of, zero_page, NamesCell, cell_of, with_cell, IsRegion};
+ghost use Rattle.rdb_pages.specs.Pages.{cells_of, zero_page, IsUnclaimed, NamesCell, cell_of, with_cell, IsRegion};
 
 use crate::cell::{Cell, CellRef};
 
@@ -23,7 +23,7 @@ pub trait Pages {
 
     /// Claims a page, whose 64 cells are then zero. All other pages stay as they are.
     fn claim(&mut self, page: u32)
-        requires { slice_get (held self.old) page ≡ Some None }
+        requires { IsUnclaimed (held self.old) page }
         ensures page { held self.new ≡ slice_set (held self.old) page (Some zero_page) }
         ensures region { IsRegion (held self.new) };
 

@@ -1,6 +1,5 @@
 use Rattle.std.proofs.Common.{◌≡◌, ℕ, List, [], Option, Some, slice_get, get_or, refl, sym, ap, ◌∙◌, subst}
-use Rattle.rdb_pages.specs.Pages.{page_of, cells_of, cell_of}
-use Rattle.std.specs.Option.{IsSome}
+use Rattle.rdb_pages.specs.Pages.{page_of, cell_of, IsClaimed}
 use Rattle.rdb_pages.specs.declared.cell.Cell.{Cell}
 use Rattle.rdb_pages.proofs.Regions.{claimed_page, cell_found}
 use Rattle.rdb_pages.proofs.raw_pages.RawPagesPages.cell.Goals as goal
@@ -8,7 +7,7 @@ use Rattle.rdb_pages.proofs.raw_pages.RawPagesPages.cell.Goals as goal
 pub get-requires : goal.get-requires
 get-requires c =
     let held = c.self.inside.block.held in
-    claimed_page held c.page.result (subst (λ (p : ℕ). IsSome (cells_of held p)) (sym c.page.ensures) (subst (λ (h : List (Option (List Cell))). IsSome (cells_of h (page_of c.args.at))) (sym c.self.view_is) c.requires.1))
+    claimed_page held c.page.result (subst (λ (p : ℕ). IsClaimed held p) (sym c.page.ensures) (subst (λ (h : List (Option (List Cell))). IsClaimed h (page_of c.args.at)) (sym c.self.view_is) c.requires.1))
 
 pub returns-clause-cell : goal.returns-clause-cell
 returns-clause-cell c =
