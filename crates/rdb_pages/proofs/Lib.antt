@@ -1,3 +1,4 @@
+pub mod CellLaws
 pub mod Crossing
 pub mod Deeds
 pub mod Lending

@@ -3,7 +3,7 @@
 --     place_seen               what a `&` to the row shows of it
 --     of_room, to_room         new memory is empty places, and any places are memory that can go back
 --     value_in                 a stored value, with what it owns, fills a place
-use mathlib.Core.Path.{◌≡◌, refl, sym, ap}
+use mathlib.Core.Path.{◌≡◌, refl, sym}
 use Prim.Native.Nat.{ℕ, zero, suc, ◌+◌, ◌*◌, ◌<◌}
 use native.Mathlib.Omega.{arith}
 use mathlib.Core.List.{List, [], ◌∷◌}
@@ -12,10 +12,10 @@ use seplogic.Ra.Ura.{Ura}
 use base.Fraction.{full_share}
 use mir.Syntax.{ty_array}
 use mir.Val.{Val}
-use base.Logic.{SProp, ent, sep, id⊢}
+use base.Logic.{ent, sep, id⊢}
 use base.Fml.{Lft, Fml, ftrue, fsep, fat, froom}
 use types.Logic.{Logic, sem}
-use types.Kit.{‵, ◌⊛◌, some, given, ◌$◌, ◌∵◌, !, qed, by, move, keep, drop, use1, use2, split, pick, learn, rewrite, fsplit, fjoin, frame, done}
+use types.Kit.{‵, ◌⊛◌, some, given, ◌$◌, ◌∵◌, !, qed, by, move, keep, drop, use1, use2, split, pick, learn, rewrite, fsplit, frame, done}
 use denote.Index.{place, place_is}
 use denote.Memory.{part_at}
 use Rattle.std.specs.Prelude.{Option, Some, None, slice_get}

@@ -1,5 +1,5 @@
 -- A region stays one as pages are claimed and cells are written, and the table of claimed pages follows.
-use Rattle.std.proofs.Common.{◌≡◌, ℕ, zero, suc, ◌+◌, ◌-◌, ◌/◌, ◌%◌, ◌<◌, ◌≤◌, ◌⊎◌, inl, inr, List, [], ◌∷◌, length, map, set, get_or, replicate, Bool, true, false, Option, Some, None, slice_get, refl, sym, ap, ◌∙◌, subst, arith, length-set}
+use Rattle.std.proofs.Common.{◌≡◌, ℕ, zero, suc, ◌<◌, ◌≤◌, ◌⊎◌, inl, inr, List, [], ◌∷◌, length, map, set, get_or, replicate, Bool, true, false, Option, Some, None, slice_get, refl, sym, ap, ◌∙◌, arith, length-set}
 use Rattle.std.proofs.lemmas.List.{length-replicate}
 use Rattle.std.proofs.lemmas.Option.{slice_get-get_or}
 use Rattle.std.specs.Option.{is_some, option_and_then, option_flatten}
@@ -7,7 +7,7 @@ use Rattle.rdb_pages.specs.Pages.{place_of, page_of, cells_of, cell_of, IsClaime
 use Rattle.rdb_pages.specs.declared.cell.Cell.{Cell}
 use Rattle.rdb_pages.specs.declared.cell.CellRef.{CellRef}
 
-abbrev Held : Type 0
+abbrev pub Held : Type 0
 Held = List (Option (List Cell))
 
 -- a page that is written holds what was written, and each other what it held
@@ -66,7 +66,7 @@ unclaimed_page (None ∷ held) zero e = refl
 unclaimed_page (Some xs ∷ held) zero e = let no = e.1 in absurd cc
 unclaimed_page (x ∷ held) (suc page) e = unclaimed_page held page (omega (arith, e.0), e.1)
 
-cells_of-claimed : (held : Held) (page : ℕ) (xs : List Cell) → slice_get held page ≡ Some (Some xs) → cells_of held page ≡ Some xs
+pub cells_of-claimed : (held : Held) (page : ℕ) (xs : List Cell) → slice_get held page ≡ Some (Some xs) → cells_of held page ≡ Some xs
 cells_of-claimed held page xs e = ap option_flatten e
 
 pub page_length : (held : Held) (page : ℕ) (xs : List Cell) → IsRegion held → slice_get held page ≡ Some (Some xs) → length xs ≡ 64

@@ -1,5 +1,5 @@
 -- A region seen as the list of its pages: a claimed page is the list of its 64 cells, an unclaimed one is `None`.
-use Rattle.std.specs.Prelude.{◌≡◌, ℕ, ◌+◌, ◌*◌, ◌/◌, ◌%◌, ◌-◌, ◌<◌, ◌≤◌, List, length, replicate, slice_get, slice_set, Option, Some, Bool, true, false, is_some}
+use Rattle.std.specs.Prelude.{◌≡◌, ℕ, ◌+◌, ◌*◌, ◌/◌, ◌%◌, ◌-◌, ◌<◌, ◌≤◌, List, length, replicate, slice_get, slice_set, Option, true, false, is_some}
 use Rattle.std.specs.Option.{option_and_then, option_flatten, option_map, ForSome}
 use Rattle.rdb_pages.specs.declared.cell.Cell.{Cell}
 use Rattle.rdb_pages.specs.declared.cell.CellRef.{CellRef}

@@ -13,7 +13,6 @@ use base.Fml.{Incl-trans, ftrue, froom, flft}
 use prog.Capped.{capped_fits}
 use prog.Memory.{align, capped}
 use prog.Wp.{Env, WpFn}
-use types.Logic.{Logic}
 use types.Kit.{‵, raw, prop, ◌⊛◌, given, later, await, learn, at_ret, ◌$◌, ◌∵◌, !, qed, move, keep, drop, use1, split, join, group, suffices, regoal, rewrite, fsplit, fsplit3, fjoin, feq_i, done}
 use types.Part.{whole, sub}
 use types.Run.{stop, fld, unit_lit, of_opd, bin, and_then, no_more, size_word, align_word, first, blocks, exec, returns, enter}
@@ -24,7 +23,7 @@ use contract.Running.{tables}
 use denote.Builtin.{usize, RefOf}
 use denote.Exit.{yes, no}
 use denote.RattleType.{owns}
-use denote.RawPtr.{Ptr, block_ptr, ptr_val}
+use denote.RawPtr.{Ptr, block_ptr}
 use denote.Signature.{plain, types_at}
 use denote.Steps.{heard, nothing}
 use denote.Triple.Call.{calls_at_last}
@@ -32,7 +31,7 @@ use denote.Triple.Table.{framed}
 use denote.Triple.Walked.{Stays, stay_dropped, walk_of, ends_at, Goes-dropped}
 use Rattle.std.proofs.alloc.Calls.{Al, token, Gives, at_gives, Gives-goes, Gives-Gives, Goes-blank}
 use Rattle.std.proofs.alloc.Shapes.{after}
-use Rattle.std.proofs.ptr.Rows.{El, R, elτ, sz}
+use Rattle.std.proofs.ptr.Rows.{El, elτ, sz}
 use Rattle.std.proofs.RawLayout.{as_raw}
 use Rattle.std.proofs.raw_atomic.Walks.{proved_at}
 use Rattle.rdb_pages.proofs.Deeds.{both_args, P, Dr, block_ty, block_size, block_align, product, mark, deed_had}

@@ -1,11 +1,11 @@
 -- `reserve` cuts new memory into empty places, and keeps the right to free it. Assumes `Logic`.
-use mathlib.Core.Path.{◌≡◌, refl, sym, ap, subst}
+use mathlib.Core.Path.{refl, sym, ap, subst}
 use mathlib.Core.Bool.{true, false}
 use Prim.Native.Nat.{ℕ, ◌*◌, ◌<◌, ◌^◌}
 use native.Mathlib.Omega.{arith}
 use mathlib.Core.List.{List, [], ◌∷◌, ◌++◌}
 use lib.Dec.{lit<}
-use lib.ListN.{length, replicate, length-replicate}
+use lib.ListN.{replicate, length-replicate}
 use mir.MapTy.{inst_fn}
 use mir.Syntax.{Fn, Body, w64, ty_array}
 use mir.Val.{Val, vptr, vint, vstruct, vcons, vnil}
@@ -14,8 +14,6 @@ use base.Fml.{Incl-trans, ftrue, flft}
 use prog.Capped.{capped_fits}
 use prog.Memory.{align, capped}
 use prog.Wp.{Env, Wp, WpFn, after_seq, at_return}
-use sound.WpLaws.{fm_of}
-use types.Logic.{Logic}
 use types.Kit.{Post as After, any_q, ‵, raw, prop, ◌⊛◌, later, await, at_ret, ◌$◌, ◌∵◌, !, qed, move, keep, drop, use1, use2, split, join, suffices, frame, regoal, fsplit, fjoin, done}
 use types.Match.{live, vrt, in_variant}
 use types.Part.{whole, agg}
@@ -23,11 +21,10 @@ use types.Run.{stop, fld, lit, of_opd, bin, and_then, no_more, size_word, align_
 use types.ByLocal.{alloc_all, pass_all, free_all, look_at, get, get_in, get_tag, sets, sets_last, lands_as, is, env}
 use contract.BorrowLft.{◌⊑◌}
 use contract.Monad.{fact}
-use contract.Running.{tables, tables_of}
+use contract.Running.{tables}
 use denote.Builtin.{usize, RefOf}
 use denote.Exit.{yes}
 use denote.Laws.{Is}
-use denote.Memory.{hidden_shr}
 use denote.Param.{layout}
 use denote.RattleType.{RattleType, owns}
 use denote.RawPtr.{Ptr, block_ptr}
@@ -39,7 +36,7 @@ use denote.Struct.Tuple.{Tuple}
 use denote.Triple.Call.{calls_at}
 use denote.Triple.Table.{framed}
 use denote.Triple.Walked.{says, Stays, stay_dropped, walk_of, ends_at, Goes-dropped}
-use Rattle.std.specs.Prelude.{None, IfOk, Ok, Err}
+use Rattle.std.specs.Prelude.{None, Ok, Err}
 use Rattle.std.specs.Vec.Ownership.{FitsInBlock}
 use Rattle.std.specs.contracts.result.Result as RS
 use Rattle.std.specs.contracts.alloc.AllocError as AE

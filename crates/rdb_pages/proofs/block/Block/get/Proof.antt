@@ -10,7 +10,6 @@ use mir.Val.{Val, vint, vptr}
 use base.Logic.{SProp, id⊢, never}
 use base.Fml.{ftrue, flft}
 use prog.Wp.{Env, WpFn}
-use types.Logic.{Logic}
 use types.Kit.{‵, raw, prop, ◌⊛◌, at_ret, ◌$◌, ◌∵◌, !, qed, move, keep, use1, drop, split, join, suffices, regoal, fsplit, fjoin, feq_i, flt_l, done}
 use types.Run.{look, stop, fld, load, addr, size_lit, of_opd, bin, first, blocks, exec, returns, enter}
 use types.ByLocal.{alloc_all, pass_all, free_all, look_at, get, through, sets, sets_last, env}

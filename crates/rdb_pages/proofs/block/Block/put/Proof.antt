@@ -8,23 +8,22 @@ use mir.MapTy.{inst_fn}
 use mir.Syntax.{Fn, w64}
 use mir.Val.{Val, vunit, vint, vptr}
 use base.Logic.{SProp}
-use base.Fml.{ftrue, froom, flft}
+use base.Fml.{ftrue, flft}
 use prog.Wp.{Env, WpFn}
-use types.Logic.{Logic}
-use types.Kit.{‵, raw, prop, ◌⊛◌, at_ret, ◌$◌, ◌∵◌, !, qed, by, move, keep, use1, use2, drop, split, join, suffices, regoal, rewrite, fsplit, fsplit3, fjoin, fjoin3, feq_i, done}
+use types.Kit.{‵, raw, prop, ◌⊛◌, at_ret, ◌$◌, ◌∵◌, !, qed, move, keep, use1, use2, drop, split, join, suffices, regoal, rewrite, fsplit, fsplit3, fjoin, fjoin3, feq_i, done}
 use types.Part.{whole, sub, look_in}
 use types.Run.{init, stop, fld, load, size_lit, unit_lit, of_opd, bin, assigns_last, first, blocks, exec, returns, enter}
 use types.ByLocal.{alloc_all, pass_all, free_all, look_at, get, through, sets, env}
 use contract.BorrowLft.{◌⊑◌}
 use contract.Monad.{fact}
 use contract.Running.{tables}
-use denote.Builtin.{unit, usize}
+use denote.Builtin.{usize}
 use denote.Exit.{yes, no}
 use denote.RattleType.{owns}
 use denote.Signature.{plain, types_at}
 use denote.Steps.{heard, nothing}
 use denote.Triple.Walked.{says, Stays, stay_dropped, stay_ref, walk_of, ends_at, Goes-dropped, Goes-ref}
-use Rattle.std.specs.Prelude.{Option, Some, None, slice_get}
+use Rattle.std.specs.Prelude.{Some, None, slice_get}
 use Rattle.std.proofs.alloc.Shapes.{after}
 use Rattle.std.proofs.lemmas.Option.{slice_get_within}
 use Rattle.std.proofs.ptr.Rows.{El, R, el_x, elτ, sz, times_below, one_below}

@@ -1,4 +1,4 @@
-use Rattle.std.proofs.Common.{◌≡◌, ℕ, List, [], Option, Some, slice_get, get_or, refl, sym, ap, ◌∙◌, subst}
+use Rattle.std.proofs.Common.{◌≡◌, ℕ, List, [], Option, Some, slice_get, get_or, sym, subst}
 use Rattle.rdb_pages.specs.Pages.{page_of, cell_of, IsClaimed}
 use Rattle.rdb_pages.specs.declared.cell.Cell.{Cell}
 use Rattle.rdb_pages.proofs.Regions.{claimed_page, cell_found}

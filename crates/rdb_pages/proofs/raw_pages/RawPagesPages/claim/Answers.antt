@@ -1,4 +1,4 @@
-use Rattle.std.proofs.Common.{◌≡◌, List, Bool, length, map, set, refl, sym, ap, ◌∙◌, subst, true, length-set, Some}
+use Rattle.std.proofs.Common.{List, Bool, length, map, set, refl, sym, ap, ◌∙◌, subst, true, length-set, Some}
 use Rattle.std.specs.Option.{is_some}
 use Rattle.rdb_pages.specs.Pages.{IsRegion, zero_page}
 use Rattle.rdb_pages.proofs.Regions.{IsRegion-set, table-claimed}

@@ -1,4 +1,4 @@
-use Rattle.std.proofs.Common.{◌≡◌, ℕ, List, Option, Some, slice_get, set, refl, sym, ap, ◌∙◌, subst, length-set}
+use Rattle.std.proofs.Common.{ℕ, List, Option, Some, set, sym, ◌∙◌, subst, length-set}
 use Rattle.rdb_pages.specs.Pages.{page_of, IsClaimed}
 use Rattle.rdb_pages.specs.declared.cell.Cell.{Cell}
 use Rattle.rdb_pages.proofs.Regions.{IsRegion-set, claimed_page, page_length, table-written}
