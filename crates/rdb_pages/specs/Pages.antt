@@ -4,6 +4,10 @@ use Rattle.std.specs.Option.{option_and_then, option_flatten, option_map, ForSom
 use Rattle.rdb_pages.specs.declared.cell.Cell.{Cell}
 use Rattle.rdb_pages.specs.declared.cell.CellRef.{CellRef}
 
+-- the most pages of a region
+abbrev pub max_pages : ℕ
+max_pages = 16384
+
 -- a cell whose words are all zero
 abbrev pub zero_cell : Cell
 zero_cell = record { words = replicate 16 0 }
@@ -48,7 +52,7 @@ cell_of held at = option_and_then (λ cells. slice_get cells (place_of at)) (cel
 abbrev pub with_cell : List (Option (List Cell)) → CellRef → Cell → List (Option (List Cell))
 with_cell held at cell = slice_set held (page_of at) (option_map (λ cells. slice_set cells (place_of at) cell) (cells_of held (page_of at)))
 
--- there are 1 to 16,384 pages, and each that is claimed has 64 cells
+-- there are 1 to `max_pages` pages, and each that is claimed has 64 cells
 pub record IsRegion (held : List (Option (List Cell))) : Type 0 where
-  pub count : (1 ≤ length held) × (length held ≤ 16384)
+  pub count : (1 ≤ length held) × (length held ≤ max_pages)
   pub whole : (page : ℕ) → ForSome (cells_of held page) (λ cells. length cells ≡ 64)

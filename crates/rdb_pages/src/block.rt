@@ -11,7 +11,7 @@ use std::marker::{Model, PhantomData, Send};
 use std::mem::{align_of, size_of};
 
 /// The owner of the places. It knows where they begin, and the logic knows which of them hold a value.
-pub struct Block<T> {
+pub(crate) struct Block<T> {
     start: *mut T,
     ghost held: { List (Option T) },
 }
@@ -25,7 +25,7 @@ impl<T> Model for Block<T> {
 unsafe impl<T: Send> Send for Block<T> {}
 
 /// The right to give the block back to its allocator. It takes no space.
-pub struct Deed<T, A: Allocator> {
+pub(crate) struct Deed<T, A: Allocator> {
     marker: PhantomData<*const (T, A)>,
     ghost start: { Ptr },
     ghost len: { ℕ },

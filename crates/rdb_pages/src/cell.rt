@@ -1,11 +1,11 @@
 //! A cell, and the reference by which others name it. Nothing here touches memory beyond its arguments.
 ghost use Rattle.std.specs.Prelude.{◌≡◌, ◌<◌};
-ghost use Rattle.rdb_pages.specs.Pages.{page_of, place_of, ref_of};
+ghost use Rattle.rdb_pages.specs.Pages.{max_pages, page_of, place_of, ref_of};
 
 /// How many cells a page has.
 pub const PAGE_CELLS: u32 = 64;
 
-/// A cell: 16 words of 32 bits.
+/// A cell: 64 bytes, as 16 words of 32 bits.
 #[derive(Clone, Copy, Debug, PartialEq, Eq)]
 pub struct Cell {
     pub words: [u32; 16],
@@ -25,7 +25,7 @@ pub struct CellRef {
 impl CellRef {
     /// Returns the reference of the cell at a place of a page.
     pub fn of(page: u32, place: u32) -> CellRef
-        requires { (page < 16384) × (place < 64) }
+        requires { (page < max_pages) × (place < 64) }
         ensures { result ≡ ref_of page place }
     {
         CellRef {

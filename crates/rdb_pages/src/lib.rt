@@ -8,9 +8,6 @@ mod raw_pages;
 #[cfg(test)]
 mod tests;
 
-// A contract can name a `RawPages` only if the types of its fields are exported.
-#[doc(hidden)]
-pub use block::{Block, Deed};
 pub use cell::{Cell, CellRef, PAGE_CELLS};
-pub use pages::Pages;
+pub use pages::{MAX_PAGES, Pages};
 pub use raw_pages::RawPages;

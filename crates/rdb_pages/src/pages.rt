@@ -5,8 +5,12 @@ ghost use Rattle.rdb_pages.specs.Pages.{cells_of, zero_page, IsUnclaimed, NamesC
 
 use crate::cell::{Cell, CellRef};
 
+/// The most pages that a region can have.
+pub const MAX_PAGES: u32 = 16384;
+
 /// The pages of a region, seen as a list: an unclaimed page is `None`, and a claimed one is the list
-/// of its 64 cells. No call takes memory.
+/// of its 64 cells. There are 1 to `MAX_PAGES` of them, and their number never changes. No call takes
+/// memory.
 pub trait Pages {
     ghost held: { Self → List (Option (List CellValue)) };
 

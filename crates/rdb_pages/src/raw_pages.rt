@@ -1,5 +1,6 @@
 //! The pages of a region in one block, of which nothing is written until a page is claimed.
-ghost use Rattle.std.specs.Prelude.{◌≡◌, ◌<◌, ◌≤◌, None, replicate, IfOk};
+ghost use Rattle.std.specs.Prelude.{◌≡◌, ◌≤◌, None, replicate, IfOk};
+ghost use Rattle.rdb_pages.specs.Pages.{max_pages};
 
 use crate::block::{Block, Deed, release, reserve};
 use crate::cell::{Cell, CellRef};
@@ -9,8 +10,9 @@ use std::marker::Model;
 
 type Page = [Cell; 64];
 
-/// The pages of a region in one block. A page's memory is first written when the page is claimed, so
-/// a region costs memory as it fills.
+/// The pages of a region in one block of memory, 4,096 bytes a page, which is freed when the value is
+/// dropped. A page's memory is first written when the page is claimed. Each call but `reserve` and
+/// `claim` takes constant time, and `claim` writes one page.
 pub struct RawPages {
     alloc: Global,
     claimed: Vec<bool>,
@@ -44,10 +46,10 @@ impl Drop for RawPages {
 }
 
 impl RawPages {
-    /// Reserves memory for pages that are all unclaimed. It writes to none of them, and takes a
-    /// byte for each beside them.
+    /// Reserves memory for pages that are all unclaimed. It writes to none of them, and fills a table
+    /// of a byte for each page beside them. The only error is want of memory.
     pub fn reserve(alloc: Global, pages: u32) -> Result<RawPages, AllocError>
-        requires { (1 ≤ pages) × (pages ≤ 16384) }
+        requires { (1 ≤ pages) × (pages ≤ max_pages) }
         ensures { IfOk result (λ p. p ≡ replicate pages None) }
     {
         let claimed = vec![in alloc; false; pages as usize]?;

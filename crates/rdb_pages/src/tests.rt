@@ -2,7 +2,7 @@
 ghost use Rattle.std.specs.Prelude.{◌<◌};
 
 use crate::cell::{Cell, CellRef, PAGE_CELLS};
-use crate::pages::Pages;
+use crate::pages::{MAX_PAGES, Pages};
 use crate::raw_pages::RawPages;
 use std::alloc::AllocError;
 use std::cell::Cell as Counter;
@@ -54,7 +54,7 @@ fn claim<P: Pages>(rt: &impl Abort, pages: &mut P, page: u32) {
 }
 
 fn reference<P: Pages>(rt: &impl Abort, pages: &P, page: u32, place: u32) -> CellRef {
-    assert!(rt; page < 16384 && place < PAGE_CELLS);
+    assert!(rt; page < MAX_PAGES && place < PAGE_CELLS);
     let at = CellRef::of(page, place);
     assert!(rt; at.page() == page && at.place() == place);
     at
@@ -75,7 +75,7 @@ fn read<P: Pages>(rt: &impl Abort, pages: &P, page: u32, place: u32) -> Cell {
 #[test]
 fn references_count_cells_from_one(rt: HostRuntime) {
     for (page, place, number) in [(0, 0, 1), (0, 63, 64), (1, 0, 65), (16383, 63, 1_048_576)] {
-        assert!(rt; page < 16384 && place < 64);
+        assert!(rt; page < MAX_PAGES && place < 64);
         let at = CellRef::of(page, place);
         assert_eq!(rt; (at.number, at.page(), at.place()), (number, page, place));
     }
