@@ -8,25 +8,29 @@ use Rattle.rdb_pages.specs.declared.cell.CellRef.{CellRef}
 abbrev pub max_pages : ℕ
 max_pages = 16384
 
+-- how many cells a page has
+abbrev pub page_cells : ℕ
+page_cells = 64
+
 -- a cell whose words are all zero
 abbrev pub zero_cell : Cell
 zero_cell = record { words = replicate 16 0 }
 
 -- a page of such cells
 abbrev pub zero_page : List Cell
-zero_page = replicate 64 zero_cell
+zero_page = replicate page_cells zero_cell
 
 -- the page that a cell's reference leads to
 abbrev pub page_of : CellRef → ℕ
-page_of at = (at.number - 1) / 64
+page_of at = (at.number - 1) / page_cells
 
 -- the cell's place in that page
 abbrev pub place_of : CellRef → ℕ
-place_of at = (at.number - 1) % 64
+place_of at = (at.number - 1) % page_cells
 
 -- the reference of the cell at a place of a page
 abbrev pub ref_of : ℕ → ℕ → CellRef
-ref_of page place = record { number = 1 + 64 * page + place }
+ref_of page place = record { number = 1 + page_cells * page + place }
 
 -- the cells of a page: none where it is unclaimed, or past the last page
 abbrev pub cells_of : List (Option (List Cell)) → ℕ → Option (List Cell)
@@ -52,7 +56,7 @@ cell_of held at = option_and_then (λ cells. slice_get cells (place_of at)) (cel
 abbrev pub with_cell : List (Option (List Cell)) → CellRef → Cell → List (Option (List Cell))
 with_cell held at cell = slice_set held (page_of at) (option_map (λ cells. slice_set cells (place_of at) cell) (cells_of held (page_of at)))
 
--- there are 1 to `max_pages` pages, and each that is claimed has 64 cells
+-- there are 1 to `max_pages` pages, and each that is claimed has `page_cells` cells
 pub record IsRegion (held : List (Option (List Cell))) : Type 0 where
   pub count : (1 ≤ length held) × (length held ≤ max_pages)
-  pub whole : (page : ℕ) → ForSome (cells_of held page) (λ cells. length cells ≡ 64)
+  pub whole : (page : ℕ) → ForSome (cells_of held page) (λ cells. length cells ≡ page_cells)

@@ -1,8 +1,7 @@
 //! One block of memory as a row of places, each empty or holding a value. The raw pointer stays in this module.
-ghost use Rattle.std.specs.Prelude.{◌≡◌, ℕ, ◌<◌, List, Option, Some, None, length, replicate, slice_get, slice_set, IfOk};
+ghost use Rattle.std.specs.Prelude.{◌≡◌, ℕ, List, Option, Some, None, length, replicate, slice_get, slice_set, IfOk};
 ghost use Rattle.std.specs.Borrow.{sem};
 ghost use Rattle.std.specs.Vec.Ownership.{FitsInBlock};
-ghost use base.Fml.{ftrue};
 ghost use denote.RawPtr.{Ptr};
 ghost use Rattle.rdb_pages.specs.Block.{block_owns, block_lends, deed_owns};
 
@@ -10,7 +9,8 @@ use std::alloc::{AllocError, Allocator};
 use std::marker::{Model, PhantomData, Send};
 use std::mem::{align_of, size_of};
 
-/// The owner of the places. It knows where they begin, and the logic knows which of them hold a value.
+/// The owner of the places, at any type of value. It keeps where they begin; which of them hold a value
+/// is told by `held` alone, so a caller that has to know keeps a table of its own.
 pub(crate) struct Block<T> {
     start: *mut T,
     ghost held: { List (Option T) },

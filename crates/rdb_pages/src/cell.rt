@@ -1,6 +1,6 @@
 //! A cell, and the reference by which others name it. Nothing here touches memory beyond its arguments.
 ghost use Rattle.std.specs.Prelude.{◌≡◌, ◌<◌};
-ghost use Rattle.rdb_pages.specs.Pages.{max_pages, page_of, place_of, ref_of};
+ghost use Rattle.rdb_pages.specs.Pages.{max_pages, page_cells, page_of, place_of, ref_of};
 
 /// How many cells a page has.
 pub const PAGE_CELLS: u32 = 64;
@@ -25,7 +25,7 @@ pub struct CellRef {
 impl CellRef {
     /// Returns the reference of the cell at a place of a page.
     pub fn of(page: u32, place: u32) -> CellRef
-        requires { (page < max_pages) × (place < 64) }
+        requires { (page < max_pages) × (place < page_cells) }
         ensures { result ≡ ref_of page place }
     {
         CellRef {
@@ -44,7 +44,7 @@ impl CellRef {
     /// Returns the cell's place in that page, from 0 to 63.
     pub fn place(self) -> u32
         requires { 0 < self.number }
-        ensures { (result ≡ place_of self) × (result < 64) }
+        ensures { (result ≡ place_of self) × (result < page_cells) }
     {
         (self.number - 1) % PAGE_CELLS
     }

@@ -1,10 +1,7 @@
 //! What a region of raw pages does on real memory, and that a crate can bring pages of its own.
-ghost use Rattle.std.specs.Prelude.{◌<◌};
-
 use crate::cell::{Cell, CellRef, PAGE_CELLS};
 use crate::pages::{MAX_PAGES, Pages};
 use crate::raw_pages::RawPages;
-use std::alloc::AllocError;
 use std::cell::Cell as Counter;
 use std::process::Abort;
 use std::test::*;
