@@ -1,4 +1,4 @@
-use Rattle.std.proofs.Common.{ℕ, List, Option, Some, set, sym, ◌∙◌, subst, length-set}
+use Rattle.std.proofs.Common.{ℕ, List, Option, sym, ◌∙◌, subst, length-set}
 use Rattle.rdb_pages.specs.Pages.{page_of, IsClaimed}
 use Rattle.rdb_pages.specs.declared.cell.Cell.{Cell}
 use Rattle.rdb_pages.proofs.Regions.{IsRegion-set, claimed_page, page_length, table-written}
@@ -11,15 +11,14 @@ get_mut-requires c =
 
 pub invariant_of-self : goal.invariant_of-self
 invariant_of-self c =
-    let i = c.self.invariant in let held = c.self.inside.block.held in let xs = c.get_mut.result.now in let place = c.place-place.result in let page = c.page.result in
-    let cells : List Cell = set xs place c.args.cell in let there = c.get_mut.ensures.value in
+    let i = c.self.invariant in let held = c.self.inside.block.held in let xs = c.get_mut.result.now in let page = c.page.result in let there = c.get_mut.ensures.value in
     record {
-      region = IsRegion-set held page cells i.region (length-set xs place c.args.cell ∙ page_length held page xs i.region there);
-      table = i.table ∙ table-written held page xs cells there;
-      deed = (i.deed.0, i.deed.1 ∙ sym (length-set held page (Some cells)), i.deed.2);
+      region = IsRegion-set held page _ i.region (length-set xs _ _ ∙ page_length held page xs i.region there);
+      table = i.table ∙ table-written held page xs _ there;
+      deed = (i.deed.0, i.deed.1 ∙ sym (length-set held page _), i.deed.2);
     }
 
 pub returns-clause-region : goal.returns-clause-region
 returns-clause-region c =
-    let i = c.self.invariant in let held = c.self.inside.block.held in let xs = c.get_mut.result.now in let place = c.place-place.result in let page = c.page.result in
-    IsRegion-set held page (set xs place c.args.cell) i.region (length-set xs place c.args.cell ∙ page_length held page xs i.region c.get_mut.ensures.value)
+    let i = c.self.invariant in let held = c.self.inside.block.held in let xs = c.get_mut.result.now in let page = c.page.result in
+    IsRegion-set held page _ i.region (length-set xs _ _ ∙ page_length held page xs i.region c.get_mut.ensures.value)
