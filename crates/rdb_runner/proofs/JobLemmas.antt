@@ -26,13 +26,13 @@ pub by_job : {P : Type 0} → (names : List (List ℕ)) (sight : Sight) (ink : I
   → P
 by_job names sight ink result (inr none) done unreadable other cut silent = silent none.0 none.1
 by_job names sight ink result (inl (status, text, owes, inr off)) done unreadable other cut silent = cut off.0 (status, text, owes, off.1)
-by_job names sight ink result (inl (status, text, inl zero, inl whole)) done unreadable other cut silent = done text (whole.0 ∙ zero.0) zero.1 whole.1
+by_job names sight ink result (inl (status, text, inl first, inl whole)) done unreadable other cut silent = done text (whole.0 ∙ first.0) first.1 whole.1
 by_job names sight ink result (inl (status, text, inr (inl three), inl whole)) done unreadable other cut silent = unreadable text (whole.0 ∙ three.0) three.1 whole.1
 by_job names sight ink result (inl (status, text, inr (inr ten), inl whole)) done unreadable other cut silent = other text (whole.0 ∙ ten.0) ten.1 whole.1
 
 -- bytes that are told are within the limit where they were read
 pub told_within : (told : List ℕ → Option (List ℕ)) (names texts : List (List ℕ)) (place : ℕ) (name there : List ℕ) → AreBytesOf told names texts → slice_get names place ≡ Some name → told name ≡ Some there → length there ≤ FILE_LIMIT
-told_within told [] texts place name there all at is = let no : None ≡ Some name = at in cc
+told_within told [] texts place name there all at is = let never : None ≡ Some name = at in cc
 told_within told (n ∷ names) [] place name there all at is = absurd all
 told_within told (n ∷ names) (t ∷ texts) zero name there all at is =
     let same : n ≡ name = cc in
@@ -51,10 +51,10 @@ bytes_told : (told : List ℕ → Option (List ℕ)) (name text there : List ℕ
 bytes_told told name text there h is = subst (λ (o : Option (List ℕ)). IfSome o (λ x. text ≡ x)) is h.0
 
 first_is_plain : (schema schedule client : List ℕ) (place : ℕ) (d c f : List ℕ) (steps : List PlainStep) → IsSchemaText schema d c f → is_plain_schedule schedule ≡ true → IsClientOf c client steps → IsFirstOther schema schedule client place → ⊥
-first_is_plain schema schedule client place d c f steps is ok has (inl no) = no.1 d c f is
-first_is_plain schema schedule client place d c f steps is ok has (inr (inl no)) = false≢true (sym no.1 ∙ ok)
-first_is_plain schema schedule client place d c f steps is ok has (inr (inr no)) =
-    let other = no.1 in
+first_is_plain schema schedule client place d c f steps is ok has (inl bad) = bad.1 d c f is
+first_is_plain schema schedule client place d c f steps is ok has (inr (inl bad)) = false≢true (sym bad.1 ∙ ok)
+first_is_plain schema schedule client place d c f steps is ok has (inr (inr bad)) =
+    let other = bad.1 in
     other.4 steps (subst (λ (k : List ℕ). IsClientOf k client steps) (same_class schema d c f other.0 other.1 other.2 is other.3) has)
 
 -- files of the simplest form are not refused
@@ -102,3 +102,19 @@ module _ (names : List (List ℕ)) (sight : Sight) (ink : Ink) (result : ℕ) (t
 
   pub job_plain : ArePlain names sight → result ≡ 10 → ⊥
   job_plain p e = let shown = job_not_built e in plain_built names sight shown.0 p shown.1
+
+-- a list of one
+pub single : (xs : List (List ℕ)) (x : List ℕ) → length xs ≡ 1 → slice_get xs 0 ≡ Some x → xs ≡ x ∷ []
+single [] x one at = absurd (omega arith)
+single (y ∷ []) x one at = let same : y ≡ x = cc in ap (λ (z : List ℕ). z ∷ []) same
+single (y ∷ z ∷ xs) x one at = absurd (omega arith)
+
+-- a text that isn't of the simplest form is told
+pub other_told : (names : List (List ℕ)) (sight : Sight) (ink : Ink) (result place : ℕ) (name : List ℕ)
+  → (schema schedule client : List ℕ) × AllRead sight names (names_of schema schedule client) × IsFirstOther schema schedule client place
+  → slice_get names place ≡ Some name
+  → Tells ink 10 (codes "regiondb: not built " ++ name ++ codes "\n") result ⊎ ((result ≡ 8) × IsSilent ink)
+  → JobTold names sight ink result
+other_told names sight ink result place name (schema, schedule, client, read, first) at (inl tells) =
+    inl (10, (codes "regiondb: not built " ++ name ++ codes "\n"), inr (inr (refl, (schema, schedule, client, place, name, read, first, at, refl))), tells)
+other_told names sight ink result place name work at (inr silent) = inr silent

@@ -1,5 +1,5 @@
 -- What one more operation adds to a run on the plain database, and that the journal of such a run is legal.
-use Rattle.std.proofs.Common.{◌≡◌, ℕ, length, ◌+◌, ◌<◌, ◌≤◌, Bool, true, false, cond, not, ◌&&◌, ◌||◌, eqb, ltb, List, [], ◌∷◌, ◌++◌, map, Option, Some, None, refl, sym, ap, ◌∙◌, subst, arith, pos}
+use Rattle.std.proofs.Common.{◌≡◌, ℕ, length, take, get_or, ◌+◌, ◌<◌, ◌≤◌, Bool, true, false, cond, not, ◌&&◌, ◌||◌, eqb, ltb, List, [], ◌∷◌, ◌++◌, map, Option, Some, None, refl, sym, ap, ◌∙◌, subst, arith, pos}
 use Rattle.std.specs.Option.{option_map, option_map_or}
 use Rattle.std.specs.List.{list_any}
 use Rattle.std.specs.Cmp.{IsTotalOrder}
@@ -8,6 +8,10 @@ use Rattle.std.specs.Cmp.Lexicographic.{pointwise}
 use Rattle.std.proofs.lemmas.Bool.{false≢true}
 use Rattle.std.proofs.lemmas.Bool.Decides.{nat_tests}
 use Rattle.std.proofs.lemmas.Cmp.{tied_itself}
+use Rattle.std.proofs.lemmas.List.{take_more, length-take}
+use Rattle.std.specs.List.{AllByRecursion}
+use Rattle.rdb_journal.specs.Lines.{StepNamesExist}
+use Rattle.rdb_runner.proofs.PlainFits.{length_after, step_named}
 use Rattle.std.specs.Ordering.{is_eq}
 use Rattle.rdb_base.specs.Order.{row_order}
 use Rattle.rdb_base.specs.declared.operation.Op.{Op}
@@ -122,23 +126,24 @@ none_wrong d c f (New number ∷ steps) next first db mid ((o, told) ∷ done) m
     let is : o ≡ operation_of next (New number) = cc in
     let others : map (λ (x : Op × Reply). x.0) done ≡ numbered (next + 1) steps = cc in
     subst (λ (p : Op). wrong_reply (schema_of d c f) db made first ((p, told) ∷ done) ≡ None) (sym is)
-    (by_reply told (subst (λ (p : Op). run (schema_of d c f) db ((p, told) ∷ done) ≡ Some mid) is r) others)
+    (by_reply told (subst (λ (p : Op). run (schema_of d c f) db ((p, told) ∷ done) ≡ Some mid) is r)
+      (λ m at ran. none_wrong d c f steps (next + 1) (first + 1) (answer (schema_of d c f) db (operation_of next (New number))).1 mid done (made ++ (0, m) ∷ []) others ran (below_more made next m at h)))
   where
-    by_reply : (told : Reply) → run (schema_of d c f) db ((operation_of next (New number), told) ∷ done) ≡ Some mid → map (λ (x : Op × Reply). x.0) done ≡ numbered (next + 1) steps → wrong_reply (schema_of d c f) db made first ((operation_of next (New number), told) ∷ done) ≡ None
-    by_reply (reply.Made m) r others =
+    by_reply : (told : Reply) → run (schema_of d c f) db ((operation_of next (New number), told) ∷ done) ≡ Some mid → ((m : ℕ) → m ≡ next → run (schema_of d c f) (answer (schema_of d c f) db (operation_of next (New number))).1 done ≡ Some mid → wrong_reply (schema_of d c f) (answer (schema_of d c f) db (operation_of next (New number))).1 (made ++ (0, m) ∷ []) (first + 1) done ≡ None) → wrong_reply (schema_of d c f) db made first ((operation_of next (New number), told) ∷ done) ≡ None
+    by_reply (reply.Made m) r rest =
         let after = (answer (schema_of d c f) db (operation_of next (New number))).1 in
         let t = taken (eqb next m) (run (schema_of d c f) after done) mid r in
         let at = same_number next m t.0 in
         (λ i. cond (t.0 i && not (new_made made next m at h i)) (wrong_reply (schema_of d c f) after (made ++ (0, m) ∷ []) (first + 1) done) (Some first))
-        ∙ none_wrong d c f steps (next + 1) (first + 1) after mid done (made ++ (0, m) ∷ []) others t.1 (below_more made next m at h)
-    by_reply (reply.Row row) r others = let no : None ≡ Some mid = r in cc
-    by_reply reply.Done r others = let no : None ≡ Some mid = r in cc
-    by_reply reply.NotFound r others = let no : None ≡ Some mid = r in cc
-    by_reply (reply.Duplicate i id) r others = let no : None ≡ Some mid = r in cc
-    by_reply (reply.Ids ids) r others = let no : None ≡ Some mid = r in cc
-    by_reply (reply.At key id) r others = let no : None ≡ Some mid = r in cc
-    by_reply reply.End r others = let no : None ≡ Some mid = r in cc
-    by_reply (reply.Count n) r others = let no : None ≡ Some mid = r in cc
+        ∙ rest m at t.1
+    by_reply (reply.Row row) r rest = let no : None ≡ Some mid = r in cc
+    by_reply reply.Done r rest = let no : None ≡ Some mid = r in cc
+    by_reply reply.NotFound r rest = let no : None ≡ Some mid = r in cc
+    by_reply (reply.Duplicate i id) r rest = let no : None ≡ Some mid = r in cc
+    by_reply (reply.Ids ids) r rest = let no : None ≡ Some mid = r in cc
+    by_reply (reply.At key id) r rest = let no : None ≡ Some mid = r in cc
+    by_reply reply.End r rest = let no : None ≡ Some mid = r in cc
+    by_reply (reply.Count n) r rest = let no : None ≡ Some mid = r in cc
 none_wrong d c f (Get id ∷ steps) next first db mid ((o, told) ∷ done) made e r h =
     let is : o ≡ operation_of next (Get id) = cc in
     let others : map (λ (x : Op × Reply). x.0) done ≡ numbered next steps = cc in
@@ -150,7 +155,7 @@ none_wrong d c f (Get id ∷ steps) next first db mid ((o, told) ∷ done) made 
      ∙ none_wrong d c f steps next (first + 1) db mid done (made ++ []) others t.1 (below_same made next h))
 
 some_of : (o : Option Database) → IsSome o → (mid : Database) × (o ≡ Some mid)
-some_of None h = absurd h
+some_of None h = let no : false ≡ true = h in absurd (false≢true no)
 some_of (Some mid) h = (mid, refl)
 
 -- the journal of such a client is legal
@@ -158,3 +163,38 @@ pub journal_is_legal : (d c f : List ℕ) (steps : List PlainStep) (done : List 
 journal_is_legal d c f steps done a =
     let ran = some_of (run (schema_of d c f) (empty 1) done) a.runs in
     ap (λ (w : Option ℕ). option_map_or (legality.Illegal 1) (option_map why.Reply w) legality.Legal) (none_wrong d c f steps 1 1 (empty 1) ran.0 done [] a.operations ran.1 tt)
+
+-- the steps before a place are answered
+pub record Answered (schema : Schema) (steps : List PlainStep) (index : ℕ) (done : List (Op × Reply)) (db : Database) (next : ℕ) : Type 0 where
+  pub operations : map (λ (d : Op × Reply). d.0) done ≡ numbered 1 (take index steps)
+  pub next_id : next ≡ 1 + made_by (take index steps)
+  pub runs : run schema (empty 1) done ≡ Some db
+  pub classes : length db ≡ 1
+  pub named : AllByRecursion (StepNamesExist schema) done
+
+all_more : (P : Op × Reply → Type 0) (done : List (Op × Reply)) (d : Op × Reply) → AllByRecursion P done → P d → AllByRecursion P (done ++ d ∷ [])
+all_more P [] d all h = (h, tt)
+all_more P (x ∷ done) d all h = (all.0, all_more P done d all.1 h)
+
+map_more_of : (done : List (Op × Reply)) (d : Op × Reply) → map (λ (x : Op × Reply). x.0) (done ++ d ∷ []) ≡ map (λ (x : Op × Reply). x.0) done ++ d.0 ∷ []
+map_more_of [] d = refl
+map_more_of (x ∷ done) d = ap (λ (os : List Op). x.0 ∷ os) (map_more_of done d)
+
+-- one step more
+pub answered_more : IsTotalOrder row_order → (schema : Schema) (steps : List PlainStep) (index : ℕ) (done : List (Op × Reply)) (db : Database) (next : ℕ) (one : PlainStep) → IsPlain schema → index < length steps → one ≡ get_or steps index one → Answered schema steps index done db next
+  → Answered schema steps (index + 1) (done ++ (operation_of next one, (answer schema db (operation_of next one)).0) ∷ []) (answer schema db (operation_of next one)).1 (next + made_by (one ∷ []))
+answered_more total schema steps index done db next one plain within at a =
+    let front = take index steps in
+    let more : take (index + 1) steps ≡ front ++ one ∷ [] = take_more steps index one within ∙ ap (λ (s : PlainStep). front ++ s ∷ []) (sym at) in
+    record {
+      operations = map_more_of done (operation_of next one, (answer schema db (operation_of next one)).0) ∙ ap (λ (os : List Op). os ++ operation_of next one ∷ []) a.operations
+        ∙ ap (λ (n : ℕ). numbered 1 front ++ operation_of n one ∷ []) a.next_id ∙ sym (numbered-snoc 1 front one) ∙ ap (numbered 1) (sym more);
+      next_id = ap (λ (n : ℕ). n + made_by (one ∷ [])) a.next_id ∙ omega (arith, made_by-snoc front one) ∙ ap (λ (xs : List PlainStep). 1 + made_by xs) (sym more);
+      runs = run-snoc schema (empty 1) done (operation_of next one, (answer schema db (operation_of next one)).0) db a.runs (same_reply-refl total (answer schema db (operation_of next one)).0);
+      classes = length_after schema plain db next one ∙ a.classes;
+      named = all_more (StepNamesExist schema) done _ a.named (step_named schema plain db next one);
+    }
+
+-- few rows are made by few steps
+pub few_made : (steps : List PlainStep) (index : ℕ) → made_by (take index steps) ≤ length steps
+few_made steps index = omega (arith, made_by-le (take index steps), length-take index steps)

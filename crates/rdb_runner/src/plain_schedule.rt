@@ -1,8 +1,8 @@
 //! Reads a schedule of the simplest form: the items `1*` and `1`. It touches nothing but the text.
 
-ghost use Rattle.std.specs.Prelude.{◌≡◌, IsTrue, ◌↔◌};
-ghost use Rattle.std.specs.Bool.{OnTrue, OnFalse};
-ghost use Rattle.rdb_runner.specs.PlainSchedule.{after_blanks, is_plain_schedule};
+ghost use Rattle.std.specs.Prelude.{◌≡◌, ◌≤◌, length};
+ghost use Rattle.std.specs.Bool.{OnTrue};
+ghost use Rattle.rdb_runner.specs.PlainSchedule.{after_blanks, begins_with, is_plain_schedule};
 
 use crate::front::after;
 
@@ -20,20 +20,30 @@ fn after_blanks(text: &[u8]) -> &[u8]
     }
 }
 
+/// Whether the text begins with the word.
+fn begins_with(text: &[u8], word: &[u8]) -> bool
+    ensures value { result ≡ begins_with text.now word.now }
+    ensures long { OnTrue result (length word.now ≤ length text.now) }
+{
+    match after(text, word) {
+        Some(_) => true,
+        None => false,
+    }
+}
+
 /// Whether the text is such a schedule: one step after another of the one client until its transaction ends, and a
 /// step more. The cost grows with the text.
 pub fn is_plain_schedule(text: &[u8]) -> bool
     ensures { result ≡ is_plain_schedule text.now }
 {
-    let Some(first) = after(after_blanks(text), b"1*") else {
-        return false;
-    };
-    let second = after_blanks(first);
-    if second.len() == first.len() {
+    let first = after_blanks(text);
+    if !begins_with(first, b"1*") {
         return false;
     }
-    match after(second, b"1") {
-        Some(end) => after_blanks(end).is_empty(),
-        None => false,
+    let between = &first[2..];
+    let second = after_blanks(between);
+    if second.len() == between.len() || !begins_with(second, b"1") {
+        return false;
     }
+    after_blanks(&second[1..]).is_empty()
 }

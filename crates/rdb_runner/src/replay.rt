@@ -173,6 +173,17 @@ fn end_job<F: Files, K: Sink>(
     }
 }
 
+/// What a job with one client ends with.
+fn end<F: Files, K: Sink>(alloc: Global, job: &Job, files: &mut F, out: &mut K) -> u8
+    requires { length job.now.clients ≡ 1 }
+    ensures { JobEnds (files_of job.now) (sight_of F.told F.asked F.faults files.old files.new) (ink_of K.written K.faults out.old out.new) result }
+{
+    let schema = job.schema.as_str();
+    let schedule = job.schedule.as_str();
+    let client = job.clients.at(0).as_str();
+    end_job(alloc, files, out, schema, schedule, client)
+}
+
 /// Replays a job: reads its files in order, runs its client and writes the report. Until other forms are built it is
 /// for jobs with one client, whose files are of the simplest form. The cost grows with the files and the report.
 ///
@@ -207,8 +218,5 @@ pub fn replay<F: Files, K: Sink>(alloc: Global, job: &Job, files: &mut F, out: &
     ensures asked { AsksFirst (sight_of F.told F.asked F.faults files.old files.new) (files_of job.now) }
     ensures ends { JobEnds (files_of job.now) (sight_of F.told F.asked F.faults files.old files.new) (ink_of K.written K.faults out.old out.new) result }
 {
-    let schema = job.schema.as_str();
-    let schedule = job.schedule.as_str();
-    let client = job.clients.at(0).as_str();
-    end_job(alloc, files, out, schema, schedule, client)
+    end(alloc, job, files, out)
 }

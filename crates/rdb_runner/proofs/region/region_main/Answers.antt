@@ -1,0 +1,35 @@
+use Rattle.rdb_runner.proofs.CommandLemmas.{words_status, words_done, words_usage, words_none, words_unreadable, words_failed_read, words_too_long, words_not_built, words_plain, words_cut, words_memory}
+use Rattle.rdb_runner.proofs.region.region_main.Goals as goal
+
+pub returns-clause-statuses : goal.returns-clause-statuses
+returns-clause-statuses g c = words_status _ _ _ _ c.end_words.ensures.ends
+
+pub returns-clause-done : goal.returns-clause-done
+returns-clause-done g c = words_done _ _ _ _ c.end_words.ensures.ends
+
+pub returns-clause-usage : goal.returns-clause-usage
+returns-clause-usage g c = words_usage _ _ _ _ c.end_words.ensures.ends
+
+pub returns-clause-no_command_line : goal.returns-clause-no_command_line
+returns-clause-no_command_line g c = words_none _ _ _ _ c.end_words.ensures.ends
+
+pub returns-clause-unreadable : goal.returns-clause-unreadable
+returns-clause-unreadable g c = words_unreadable _ _ _ _ c.end_words.ensures.ends
+
+pub returns-clause-failed_read : goal.returns-clause-failed_read
+returns-clause-failed_read g c = words_failed_read _ _ _ _ c.end_words.ensures.ends
+
+pub returns-clause-too_long : goal.returns-clause-too_long
+returns-clause-too_long g c = words_too_long _ _ _ _ c.end_words.ensures.ends
+
+pub returns-clause-not_built : goal.returns-clause-not_built
+returns-clause-not_built g c = words_not_built _ _ _ _ c.end_words.ensures.ends
+
+pub returns-clause-plain : goal.returns-clause-plain
+returns-clause-plain g c = words_plain _ _ _ _ c.end_words.ensures.ends
+
+pub returns-clause-interrupted : goal.returns-clause-interrupted
+returns-clause-interrupted g c = words_cut _ _ _ _ c.end_words.ensures.ends
+
+pub returns-clause-memory : goal.returns-clause-memory
+returns-clause-memory g c = words_memory _ _ _ _ c.end_words.ensures.ends
