@@ -12,5 +12,6 @@ nobody = record { ref_ptr = (0, 0); now = [] }
 pub returns-in-len1 : goal.returns-in-len1
 returns-in-len1 g c =
     let line = c.in-Replay in
-    let clients : texts line.clients.items ≡ _ = ap texts (sym c.as_slice.ensures.value) ∙ one_lent c.as_slice.result.now nobody ? in
+    let one : length c.as_slice.result.now ≡ 1 = omega c.in-len1 in
+    let clients : texts line.clients.items ≡ _ = ap texts (sym c.as_slice.ensures.value) ∙ one_lent c.as_slice.result.now nobody one in
     ?
