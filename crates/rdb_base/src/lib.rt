@@ -17,5 +17,7 @@ pub mod order;
 pub mod sink;
 pub mod steps;
 pub mod sure;
+#[cfg(test)]
+mod tests;
 pub mod text;
 pub mod value;
