@@ -1,4 +1,4 @@
-use Rattle.std.proofs.Common.{◌≡◌, ◌++◌, string_bytes, flat_map, ◌∷◌, []}
+use Rattle.std.proofs.Common.{◌≡◌, ◌++◌, string_bytes, flat_map}
 use Rattle.std.specs.Prelude.{encode_utf8_all}
 use Rattle.rdb_schema.specs.Printed.{escaped}
 use Rattle.rdb_schema.proofs.printed.append_quoted.Given as goal
