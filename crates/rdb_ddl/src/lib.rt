@@ -1,7 +1,12 @@
 //! The schema language: its tokens, its grammar, and the canonical text of a schema.
 #![tactic(auto)]
 
+mod expect;
+pub mod fault;
+mod keyword;
+mod parse;
 pub mod place;
+pub mod read;
 #[cfg(test)]
 mod tests;
 pub mod token;
