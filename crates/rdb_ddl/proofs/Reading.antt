@@ -45,8 +45,8 @@ one_more front next_front expect next rest whole lexeme is allowed shorter more 
     tokens = tokens;
     enough = omega arith;
     so_far =
-      let step : reads (suc tokens) expect rest ≡ parsed_with (part_of expect lexeme.word lexeme.rest) lexeme.left (reads tokens next lexeme.rest) = rw (← is, ← allowed) refl in
-      rw more (regroup front (part_of expect lexeme.word lexeme.rest) lexeme.left (reads tokens next lexeme.rest)) ∙ ap (with_front front) (sym step) ∙ read;
+        let step : reads (suc tokens) expect rest ≡ parsed_with (part_of expect lexeme.word lexeme.rest) lexeme.left (reads tokens next lexeme.rest) = rw (← is, ← allowed) refl in
+        rw more (regroup front (part_of expect lexeme.word lexeme.rest) lexeme.left (reads tokens next lexeme.rest)) ∙ ap (with_front front) (sym step) ∙ read;
   }
 
 pub is_read : (front : Parsed) (expect : Expect) (rest : List ℕ) (whole : Result Parsed ℕ) (lexeme : Lexeme) → lexeme ≡ lexeme_at rest → None ≡ after expect lexeme.word → ends_at expect lexeme.word ≡ true → Reads front expect rest whole → whole ≡ Ok front
@@ -55,8 +55,8 @@ is_read front expect rest whole lexeme is refused ends so_far = done_of so_far.t
   done_of : (tokens : ℕ) → length rest < tokens → with_front front (reads tokens expect rest) ≡ whole → whole ≡ Ok front
   done_of zero enough read = absurd (omega arith)
   done_of (suc tokens) enough read =
-    let step : reads (suc tokens) expect rest ≡ Ok (record { syntax = []; lefts = [] }) = rw (← is, ← refused, ends) refl in
-    sym read ∙ ap (with_front front) step ∙ ap (λ (syntax : List Part). Ok (record { syntax = syntax; lefts = front.lefts ++ [] })) (append-nil front.syntax) ∙ ap (λ (lefts : List ℕ). Ok (record { syntax = front.syntax; lefts = lefts })) (append-nil front.lefts)
+      let step : reads (suc tokens) expect rest ≡ Ok (record { syntax = []; lefts = [] }) = rw (← is, ← refused, ends) refl in
+      sym read ∙ ap (with_front front) step ∙ ap (λ (syntax : List Part). Ok (record { syntax = syntax; lefts = front.lefts ++ [] })) (append-nil front.syntax) ∙ ap (λ (lefts : List ℕ). Ok (record { syntax = front.syntax; lefts = lefts })) (append-nil front.lefts)
 
 pub is_refused : (front : Parsed) (expect : Expect) (rest : List ℕ) (whole : Result Parsed ℕ) (lexeme : Lexeme) → lexeme ≡ lexeme_at rest → None ≡ after expect lexeme.word → ends_at expect lexeme.word ≡ false → Reads front expect rest whole → whole ≡ Err lexeme.left
 unfolding reads
@@ -64,8 +64,8 @@ is_refused front expect rest whole lexeme is refused stays so_far = done_of so_f
   done_of : (tokens : ℕ) → length rest < tokens → with_front front (reads tokens expect rest) ≡ whole → whole ≡ Err lexeme.left
   done_of zero enough read = absurd (omega arith)
   done_of (suc tokens) enough read =
-    let step : reads (suc tokens) expect rest ≡ Err lexeme.left = rw (← is, ← refused, stays) refl in
-    sym read ∙ ap (with_front front) step
+      let step : reads (suc tokens) expect rest ≡ Err lexeme.left = rw (← is, ← refused, stays) refl in
+      sym read ∙ ap (with_front front) step
 
 pub placed_more : (old new : Parsed) (part : Option Part) (left total : ℕ) → new ≡ appended old part left → left ≤ total → IsPlaced old total → IsPlaced new total
 placed_more old new None left total is le placed = subst (λ (p : Parsed). IsPlaced p total) (sym is) placed

@@ -11,8 +11,7 @@ tokens-preserved c =
     let shape = c.lexeme_at-lexeme.ensures.shape in
     let old = parsed_of c.tokens.parsed in
     let shorter = goes_on c.tokens.expect c.in-Some.next (view found.token) (length found.rest.now) found.left (length c.tokens.rest.now) c.in-Some.ensures shape.0 shape.1 in
-    let more = c.in_ok-append-in-Some.ensures ∙ ap (λ part. appended old part found.left) c.in_ok-part-in-Some.ensures in
-    (
+    let more = c.in_ok-append-in-Some.ensures ∙ ap (λ part. appended old part found.left) c.in_ok-part-in-Some.ensures in (
       one_more old (parsed_of c.append.new.parsed) c.tokens.expect c.in-Some.next c.tokens.rest.now (grammar c.args.text.now) (view_lexeme found) c.lexeme_at-lexeme.ensures.value c.in-Some.ensures shorter more c.tokens.invariant.0,
       placed_more old (parsed_of c.append.new.parsed) _ found.left (length c.args.text.now) more (omega (arith, shape.1)) c.tokens.invariant.1,
       omega (arith, shorter),
