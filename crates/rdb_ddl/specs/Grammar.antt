@@ -1,6 +1,6 @@
 -- The grammar of schemas. The language is regular, so each production is "a token, and then what may come next";
 -- the names of what may come next are those of `Expect`.
-use Rattle.std.specs.Prelude.{ℕ, zero, suc, ◌++◌, Bool, true, false, List, [], ◌∷◌, length, Option, Some, None, Result, Ok, Err, if◌then◌else◌}
+use Rattle.std.specs.Prelude.{ℕ, zero, suc, Bool, true, false, List, [], ◌∷◌, length, Option, Some, None, Result, Ok, Err, if◌then◌else◌}
 use Rattle.rdb_schema.specs.declared.schema.Plain.TheVariants as plains
 use Rattle.rdb_schema.specs.declared.schema.Plain.{Plain}
 use Rattle.rdb_schema.specs.declared.schema.IndexKind.{IndexKind}

@@ -1,6 +1,5 @@
 -- What reading a schema's text gives.
-use Rattle.std.specs.Prelude.{◌≡◌, ◌<◌, ◌≤◌, ℕ, All, IfErr, ◌++◌, List, [], ◌∷◌, length, slice_get, Option, Some, None, Result, Ok, Err}
-use Rattle.std.specs.Option.{option_to_list}
+use Rattle.std.specs.Prelude.{◌≡◌, ◌≤◌, ℕ, All, ◌++◌, List, [], ◌∷◌, length, slice_get, Option, Some, None, Result, Ok, Err}
 use Rattle.rdb_schema.specs.declared.syntax.Part.{Part}
 use Rattle.rdb_ddl.specs.declared.parse.Parsed.{Parsed as Kept}
 use Rattle.rdb_ddl.specs.declared.parse.Refused.{Refused}

@@ -6,7 +6,9 @@ pub mod fault;
 mod keyword;
 mod parse;
 pub mod place;
-pub mod read;
+mod reader;
 #[cfg(test)]
 mod tests;
 pub mod token;
+
+pub use reader::read;

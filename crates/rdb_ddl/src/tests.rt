@@ -1,5 +1,5 @@
 use crate::place::{Place, place_of};
-use crate::read::read;
+use crate::read;
 use crate::token::{Sign, Token, lexeme_at};
 use rdb_schema::schema::{EventKind, FieldType, IndexKind, Plain};
 use rdb_schema::syntax::DdlCause;

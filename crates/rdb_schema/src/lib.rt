@@ -3,7 +3,9 @@
 
 mod declared;
 mod first_fault;
-pub mod resolve;
+mod resolver;
 mod rules;
 pub mod schema;
 pub mod syntax;
+
+pub use resolver::resolve;

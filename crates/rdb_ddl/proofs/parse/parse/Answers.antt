@@ -1,4 +1,4 @@
-use Rattle.std.proofs.Common.{◌≡◌, ◌<◌, ◌≤◌, length, true, false, sym, ap, ◌∙◌, arith}
+use Rattle.std.proofs.Common.{◌≡◌, length, true, false, sym, ap, ◌∙◌, arith}
 use Rattle.rdb_ddl.specs.Token.{view, view_lexeme}
 use Rattle.rdb_ddl.specs.Grammar.{grammar, ends_at}
 use Rattle.rdb_ddl.specs.Read.{parsed_of, appended}

@@ -7,7 +7,7 @@ ghost use Rattle.rdb_ddl.specs.Read.{IsRead, IsFaultIn, IsPlaced, StandsAt, pars
 use crate::fault::DdlFault;
 use crate::parse::{Parsed, parse};
 use crate::place::place_of;
-use rdb_schema::resolve::resolve;
+use rdb_schema::resolve;
 use rdb_schema::schema::Schema;
 use rdb_schema::syntax::{DdlCause, SchemaFault};
 use std::alloc::Global;
