@@ -3,3 +3,4 @@ pub mod Token
 pub mod Keyword
 pub mod Grammar
 pub mod Read
+pub mod Canonical

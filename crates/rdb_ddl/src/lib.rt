@@ -10,5 +10,7 @@ mod reader;
 #[cfg(test)]
 mod tests;
 pub mod token;
+mod writer;
 
 pub use reader::read;
+pub use writer::text;

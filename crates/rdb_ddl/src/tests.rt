@@ -1,6 +1,6 @@
 use crate::place::{Place, place_of};
-use crate::read;
 use crate::token::{Sign, Token, lexeme_at};
+use crate::{read, text};
 use rdb_schema::schema::{EventKind, FieldType, IndexKind, Plain};
 use rdb_schema::syntax::DdlCause;
 use std::alloc::Global;
@@ -280,4 +280,39 @@ fn declarations_are_read_as_written(rt: HostRuntime) -> Result<(), Fail> {
     assert_eq!(rt; class.events.at(0).kind, EventKind::UpdateField(3));
     assert_eq!(rt; class.events.at(1).kind, EventKind::Delete);
     Ok(())
+}
+
+/// The schema of the text has this canonical text, which reads as the same schema.
+fn expect_canonical(
+    rt: &impl Abort,
+    alloc: Global,
+    written: &[u8],
+    canonical: &str,
+) -> Result<(), Fail> {
+    assert!(rt; written.len() < 1000);
+    assert!(rt; canonical.len() < 1000);
+    let schema = read(alloc, written).ok().ok_or("the text is a schema")?;
+    let found = text(alloc, &schema)?;
+    assert_eq!(rt; found.as_str(), canonical);
+    let again = read(alloc, canonical.as_bytes())
+        .ok()
+        .ok_or("the canonical text is a schema")?;
+    assert!(rt; again == schema);
+    Ok(())
+}
+
+#[test]
+fn canonical_texts_are_read_again(rt: HostRuntime) -> Result<(), Fail> {
+    expect_canonical(
+        &rt,
+        rt.alloc(),
+        b"declare database shop;class Item{uint4 n;autoid[10];unique tree<n>byN;}",
+        "declare database shop;\n\nclass Item {\n  uint4 n;\n  autoid[10];\n  unique tree<n> byN;\n};\n",
+    )?;
+    expect_canonical(
+        &rt,
+        rt.alloc(),
+        b"declare database d; struct P { rect<int4> r; } class C { event<update a> e; event<new> f; patricia<a> p[007]; hash<a,b> h; vector<rect<int4>> v; string a; int1 b; vector<P> q; P s; autoid; };",
+        "declare database d;\n\nstruct P {\n  rect<int4> r;\n};\n\nclass C {\n  vector<rect<int4>> v;\n  string a;\n  int1 b;\n  vector<P> q;\n  P s;\n  autoid;\n  patricia<a> p[7];\n  hash<a,b> h;\n  event<update a> e;\n  event<new> f;\n};\n",
+    )
 }
