@@ -1,1 +1,2 @@
 pub mod Trivia
+pub mod Reading

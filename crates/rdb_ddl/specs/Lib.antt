@@ -1,2 +1,6 @@
 pub mod Place
 pub mod Token
+pub mod Keyword
+pub mod Grammar
+pub mod Read
+pub mod Canonical

@@ -1,7 +1,16 @@
 //! The schema language: its tokens, its grammar, and the canonical text of a schema.
 #![tactic(auto)]
 
+mod expect;
+pub mod fault;
+mod keyword;
+mod parse;
 pub mod place;
+mod reader;
 #[cfg(test)]
 mod tests;
 pub mod token;
+mod writer;
+
+pub use reader::read;
+pub use writer::text;

@@ -1,7 +1,5 @@
 -- Going over the parts that declare something.
-use Rattle.std.proofs.Common.{◌≡◌, ℕ, suc, ◌+◌, ◌<◌, ◌≤◌, Bool, true, false, List, [], ◌∷◌, ◌++◌, length, get_or, drop, Option, Some, None, refl, sym, ap, ◌∙◌, arith, append_assoc, add-one}
-use Rattle.std.specs.Prelude.{not}
-use Rattle.std.specs.List.{prefix_len}
+use Rattle.std.proofs.Common.{◌≡◌, ℕ, ◌+◌, ◌<◌, ◌≤◌, List, [], ◌∷◌, ◌++◌, length, get_or, drop, Option, Some, None, refl, sym, ap, ◌∙◌, append_assoc, add-one}
 use Rattle.std.specs.Option.{option_to_list}
 use Rattle.rdb_schema.specs.declared.syntax.Part.{Part}
 use Rattle.rdb_schema.specs.Meaning.{gather, estimate_from, estimate_of, key_name, key_of, field_place}

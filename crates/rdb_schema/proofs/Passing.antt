@@ -1,5 +1,5 @@
 -- Going over the parts of a schema.
-use Rattle.std.proofs.Common.{◌≡◌, ℕ, suc, ◌+◌, ◌<◌, ◌≤◌, List, [], ◌∷◌, ◌++◌, length, get_or, take, drop, Option, Some, None, refl, sym, ap, ◌∙◌, arith, below_more, length-take}
+use Rattle.std.proofs.Common.{◌≡◌, ℕ, ◌+◌, ◌<◌, ◌≤◌, List, [], ◌∷◌, ◌++◌, length, get_or, take, drop, Option, None, sym, ap, arith, below_more, length-take}
 use Rattle.std.proofs.lemmas.List.{take_more, drop-append-le, drop_all}
 use Rattle.std.proofs.lemmas.List.Sums.{fold_more}
 use Rattle.std.proofs.lemmas.Option.{slice_get-get_or}
@@ -8,7 +8,7 @@ use Rattle.rdb_schema.specs.declared.first_fault.Declared.{Declared}
 use Rattle.rdb_schema.specs.declared.syntax.Part.{Part}
 use Rattle.rdb_schema.specs.declared.syntax.Part.TheVariants as parts
 use Rattle.rdb_schema.specs.declared.syntax.DdlCause.TheVariants.{NoMemory}
-use Rattle.rdb_schema.specs.Rules.{UnlessMemory, Before, passed, before_at, cause_of, cause_at}
+use Rattle.rdb_schema.specs.Rules.{UnlessMemory, passed, before_at, cause_of, cause_at}
 use Rattle.rdb_schema.specs.Seen.{seen, passes}
 
 -- no part before this one breaks a rule, and what is kept is what stands before it

@@ -1,8 +1,7 @@
 -- The rules of a schema, and which of them a part breaks, by the parts before and after it.
-use Rattle.std.specs.Prelude.{◌≡◌, ◌<◌, ◌≤◌, ℕ, zero, suc, ◌+◌, ◌-◌, ◌==◌, ◌||◌, ◌&&◌, Bool, true, false, not, List, [], ◌∷◌, ◌++◌, length, take, drop, fold, count_by, slice_get, nat_eq, nat_lt, nat_le, Option, Some, None, if◌then◌else◌}
+use Rattle.std.specs.Prelude.{◌≡◌, ◌<◌, ℕ, ◌+◌, ◌-◌, ◌||◌, Bool, true, false, not, List, [], ◌∷◌, ◌++◌, length, take, drop, fold, count_by, slice_get, nat_eq, nat_lt, nat_le, Option, Some, None, if◌then◌else◌}
 use Rattle.std.specs.List.{list_any, suffix_len, before_first}
 use Rattle.std.specs.Cmp.Lexicographic.{pointwise}
-use Rattle.rdb_schema.specs.declared.schema.Plain.{Plain}
 use Rattle.rdb_schema.specs.declared.schema.Plain.TheVariants as plains
 use Rattle.rdb_schema.specs.declared.schema.IndexKind.{IndexKind}
 use Rattle.rdb_schema.specs.declared.schema.IndexKind.TheVariants.{Hash, Tree, Rtree, Patricia}

@@ -4,7 +4,9 @@
 pub mod printed;
 mod declared;
 mod first_fault;
-pub mod resolve;
+mod resolver;
 mod rules;
 pub mod schema;
 pub mod syntax;
+
+pub use resolver::resolve;

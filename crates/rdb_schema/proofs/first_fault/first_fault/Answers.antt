@@ -1,6 +1,5 @@
-use Rattle.std.proofs.Common.{◌≡◌, ◌+◌, drop, None, Option, sym, ap, ◌∙◌}
-use Rattle.rdb_schema.specs.declared.syntax.DdlCause.{DdlCause}
-use Rattle.rdb_schema.specs.Rules.{cause_of, cause_at}
+use Rattle.std.proofs.Common.{None, ap, ◌∙◌}
+use Rattle.rdb_schema.specs.Rules.{cause_of}
 use Rattle.rdb_schema.specs.Seen.{seen}
 use Rattle.rdb_schema.proofs.Passing.{cause_at-kept, one_more}
 use Rattle.rdb_schema.proofs.first_fault.first_fault.Goals as goal

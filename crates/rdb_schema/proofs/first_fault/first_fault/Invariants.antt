@@ -1,4 +1,3 @@
-use Rattle.std.proofs.Common.{◌≡◌}
 use Rattle.rdb_schema.proofs.Passing.{Passed}
 use Rattle.rdb_schema.proofs.first_fault.first_fault.Given as goal
 

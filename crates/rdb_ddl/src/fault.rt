@@ -1,0 +1,29 @@
+//! Why a schema's text is refused, and where.
+
+ghost use Rattle.std.specs.Prelude.{◌≡◌};
+ghost use Rattle.rdb_schema.specs.declared.syntax.DdlCause.TheVariants.{NoMemory};
+
+use rdb_schema::syntax::DdlCause;
+use std::alloc::AllocError;
+use thiserror::Error;
+
+/// The first fault of a text. Line and column count from 1, the column in bytes.
+#[derive(Clone, Copy, Debug, PartialEq, Eq, Error)]
+#[error("the schema is refused at {line}:{column}")]
+pub struct DdlFault {
+    pub line: u32,
+    pub column: u32,
+    pub cause: DdlCause,
+}
+
+impl From<AllocError> for DdlFault {
+    ghost from_gives = { λ _ fault. fault.cause ≡ NoMemory };
+
+    fn from(_error: AllocError) -> DdlFault {
+        DdlFault {
+            line: 1,
+            column: 1,
+            cause: DdlCause::NoMemory,
+        }
+    }
+}
