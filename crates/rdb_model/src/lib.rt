@@ -5,6 +5,7 @@ mod clash;
 pub mod db;
 mod declared;
 mod keys;
+pub mod fitting;
 pub mod legality;
 mod lookups;
 pub mod objects;

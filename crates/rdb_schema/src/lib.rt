@@ -8,3 +8,5 @@ pub mod resolve;
 mod rules;
 pub mod schema;
 pub mod syntax;
+pub mod lengths;
+pub mod values;
