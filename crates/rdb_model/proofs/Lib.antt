@@ -3,3 +3,4 @@ pub mod KeysLemmas
 pub mod ClashLemmas
 pub mod SeekLemmas
 pub mod FitsLemmas
+pub mod FittingLemmas

@@ -2,7 +2,7 @@
 
 ghost use Rattle.std.specs.Prelude.{◌≡◌, slice_get};
 ghost use Rattle.std.specs.List.{filter_map};
-ghost use Rattle.std.specs.Option.{option_map};
+ghost use Rattle.std.specs.Option.{option_map, option_copied};
 ghost use Rattle.rdb_schema.specs.Values.{values_hold};
 ghost use Rattle.rdb_model.specs.Index.{indexes_of, fields_of};
 ghost use Rattle.rdb_model.specs.Fits.{fits, fits_row, fits_key, fits_place, may_write, finds_keys, has_class};
@@ -11,7 +11,7 @@ use rdb_base::identity::Kind;
 use rdb_base::operation::{Op, Place};
 use rdb_base::value::Row;
 use rdb_schema::lengths::capped_length;
-use rdb_schema::schema::{Fields, IndexKind, Numbers, Schema};
+use rdb_schema::schema::{Field, Fields, IndexKind, Numbers, Schema};
 use rdb_schema::values::{holds, row_holds};
 
 /// Whether an operation fits the schema and the kind of its transaction: its class and index are there and the index is of a kind that
@@ -103,17 +103,25 @@ fn fits_key(schema: &Schema, class: u32, index: u32, key: &Row) -> bool
 fn key_holds(schema: &Schema, fields: &Fields, numbers: &Numbers, key: &Row) -> bool
     ensures { result ≡ values_hold schema.now (filter_map (slice_get fields.now) numbers.now) key.now }
 {
+    let key = key.as_slice();
     let mut place = 0;
     for number in numbers.as_slice() {
-        if let Some(field) = fields.as_slice().get(*number as usize) {
+        if let Some(field) = field_at(fields, *number) {
             if place >= key.len() {
                 return false;
             }
-            if !holds(schema, &field.ty, key.at(place)) {
+            if !holds(schema, &field.ty, &key[place]) {
                 return false;
             }
             place += 1;
         }
     }
     place == key.len()
+}
+
+// The field of a number, if there is one.
+fn field_at(fields: &Fields, number: u32) -> Option<&Field>
+    ensures { option_copied result ≡ slice_get fields.now number }
+{
+    fields.as_slice().get(number as usize)
 }
