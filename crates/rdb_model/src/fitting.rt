@@ -1,11 +1,11 @@
 //! Whether an operation fits a schema. It reads the operation and changes nothing.
 
-ghost use Rattle.std.specs.Prelude.{◌≡◌, slice_get};
+ghost use Rattle.std.specs.Prelude.{◌≡◌, ◌↔◌, IsTrue, slice_get};
 ghost use Rattle.std.specs.List.{filter_map};
 ghost use Rattle.std.specs.Option.{option_map, option_copied};
 ghost use Rattle.rdb_schema.specs.Values.{values_hold};
 ghost use Rattle.rdb_model.specs.Index.{indexes_of, fields_of};
-ghost use Rattle.rdb_model.specs.Fits.{fits, fits_row, fits_key, fits_place, may_write, finds_keys, has_class};
+ghost use Rattle.rdb_model.specs.Fits.{fits, fits_row, fits_key, fits_place, may_write, finds_keys, has_class, HasFewIndexes};
 
 use rdb_base::identity::Kind;
 use rdb_base::operation::{Op, Place};
@@ -43,6 +43,18 @@ pub fn fits(schema: &Schema, op: &Op, kind: Kind) -> bool
             _ => false,
         },
     }
+}
+
+/// Whether no class has more than eight indexes. It takes no memory. The cost grows with the number of classes.
+pub fn has_few_indexes(schema: &Schema) -> bool
+    ensures { IsTrue result ↔ HasFewIndexes schema.now }
+{
+    for class in schema.classes.as_slice() {
+        if class.indexes.len() > 8 {
+            return false;
+        }
+    }
+    true
 }
 
 fn may_write(kind: Kind) -> bool

@@ -10,3 +10,7 @@ pub mod legality;
 mod lookups;
 pub mod objects;
 mod seek;
+pub mod touching;
+
+#[cfg(test)]
+mod tests;
