@@ -1,7 +1,7 @@
 -- A key against the fields of an index, one after another.
-use Rattle.std.proofs.Common.{◌≡◌, ℕ, zero, suc, ◌+◌, ◌<◌, ◌≤◌, Bool, true, false, ◌&&◌, ◌==◌, nat_eq, List, [], ◌∷◌, length, get_or, drop, Option, Some, None, slice_get, refl, sym, ap, ◌∙◌, arith}
+use Rattle.std.proofs.Common.{◌≡◌, ℕ, ◌+◌, ◌<◌, ◌≤◌, Bool, true, false, ◌&&◌, nat_eq, List, [], ◌∷◌, length, get_or, drop, Option, Some, None, slice_get, sym, ap, ◌∙◌, arith}
 use Rattle.std.specs.List.{cons_option, filter_map}
-use Rattle.std.proofs.lemmas.List.{at_drop_more, at_drop_all, drop_more, drop_all}
+use Rattle.std.proofs.lemmas.List.{at_drop_more, drop_more, drop_all}
 use Rattle.std.proofs.lemmas.Bool.{cases_lt}
 use Rattle.std.proofs.lemmas.Bool.Decides.{nat_tests}
 use Rattle.std.proofs.Common.{inl, inr}
@@ -23,7 +23,7 @@ ended schema (v ∷ vs) place le = elim (cases_lt place (length (v ∷ vs))) [
   | inr ge ↦
       let here : nat_eq place (length (v ∷ vs)) ≡ true = grind (arith, nat_tests) in
       here ∙ ap (values_hold schema []) (sym (drop_all place (v ∷ vs) ge))
-  ]
+]
 
 module _ (schema : Schema) (fields : List Field) (numbers : List ℕ) (key : Row) (i place : ℕ) where
   -- the fields at the numbers from a place on begin with the one there, if there is one

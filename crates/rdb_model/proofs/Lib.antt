@@ -4,5 +4,4 @@ pub mod ClashLemmas
 pub mod SeekLemmas
 pub mod FitsLemmas
 pub mod FittingLemmas
-pub mod AnswerLemmas
 pub mod TouchLemmas

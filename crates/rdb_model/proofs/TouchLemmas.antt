@@ -1,5 +1,5 @@
 -- What a touch is, at a commit and an operation that is there.
-use Rattle.std.proofs.Common.{◌≡◌, ℕ, ◌-◌, Bool, true, false, List, Option, Some, slice_get, sym, ap, ◌∙◌}
+use Rattle.std.proofs.Common.{◌≡◌, ℕ, ◌-◌, false, Some, slice_get, sym, ap, ◌∙◌}
 use Rattle.std.specs.Option.{option_map_or}
 use Rattle.rdb_base.specs.declared.operation.Op.{Op}
 use Rattle.rdb_base.specs.declared.operation.Reply.{Reply}
@@ -8,7 +8,6 @@ use Rattle.rdb_base.specs.declared.journal.Entry.{Entry}
 use Rattle.rdb_base.specs.declared.journal.Entry.TheVariants as entry
 use Rattle.rdb_schema.specs.declared.schema.Schema.{Schema}
 use Rattle.rdb_model.specs.Database.{Database}
-use Rattle.rdb_model.specs.Journal.{done_of}
 use Rattle.rdb_model.specs.Touch.{touches, touched}
 
 pub touched_is : (schema : Schema) (before : Database) (e : Entry) (own : Story) (commit : ℕ) (story : Story) (n at : ℕ) (d : Op × Reply) → e ≡ entry.Commit own commit → at ≡ n - 1 → slice_get story.done at ≡ Some d → touched schema before e story n ≡ touches schema before own.done d

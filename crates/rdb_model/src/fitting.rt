@@ -30,15 +30,30 @@ pub fn fits(schema: &Schema, op: &Op, kind: Kind) -> bool
             Some(IndexKind::Hash | IndexKind::Tree) => fits_key(schema, *class, *index, key),
             _ => false,
         },
-        Op::Seek { class, index, place, up: _ } => match index_kind(schema, *class, *index) {
+        Op::Seek {
+            class,
+            index,
+            place,
+            up: _,
+        } => match index_kind(schema, *class, *index) {
             Some(IndexKind::Tree) => fits_place(schema, *class, *index, place),
             _ => false,
         },
-        Op::Area { class, index, rect, inside: _ } => match index_kind(schema, *class, *index) {
+        Op::Area {
+            class,
+            index,
+            rect,
+            inside: _,
+        } => match index_kind(schema, *class, *index) {
             Some(IndexKind::Rtree) => rect.x1 <= rect.x2 && rect.y1 <= rect.y2,
             _ => false,
         },
-        Op::Prefix { class, index, text, how: _ } => match index_kind(schema, *class, *index) {
+        Op::Prefix {
+            class,
+            index,
+            text,
+            how: _,
+        } => match index_kind(schema, *class, *index) {
             Some(IndexKind::Patricia) => text.as_str().len() <= 255,
             _ => false,
         },

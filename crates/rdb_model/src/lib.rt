@@ -4,13 +4,12 @@
 mod clash;
 pub mod db;
 mod declared;
-mod keys;
 pub mod fitting;
+mod keys;
 pub mod legality;
 mod lookups;
 pub mod objects;
 mod seek;
-pub mod touching;
-
 #[cfg(test)]
 mod tests;
+pub mod touching;

@@ -37,7 +37,12 @@ fn place(alloc: Global, x1: i32, y1: i32, x2: i32, y2: i32) -> Result<Row, NoMem
     Ok(row)
 }
 
-fn index(alloc: Global, kind: IndexKind, unique: bool, fields: &[u32]) -> Result<IndexDecl, NoMemory> {
+fn index(
+    alloc: Global,
+    kind: IndexKind,
+    unique: bool,
+    fields: &[u32],
+) -> Result<IndexDecl, NoMemory> {
     Ok(IndexDecl {
         name: Text::of(alloc, "i")?,
         kind,
@@ -48,7 +53,11 @@ fn index(alloc: Global, kind: IndexKind, unique: bool, fields: &[u32]) -> Result
 }
 
 // A schema of one class with these types and indexes.
-fn schema(alloc: Global, types: &[FieldType], indexes: List<IndexDecl>) -> Result<Schema, NoMemory> {
+fn schema(
+    alloc: Global,
+    types: &[FieldType],
+    indexes: List<IndexDecl>,
+) -> Result<Schema, NoMemory> {
     let mut fields = List::new(alloc);
     for ty in types {
         fields.push(Field {
@@ -100,7 +109,11 @@ fn a_second_object_of_a_unique_key_is_a_duplicate(rt: HostRuntime) -> Result<(),
     indexes.push(index(alloc, IndexKind::Hash, false, &[0])?)?;
     let schema = schema(alloc, &[NUMBER], indexes)?;
     let mut db = Db::empty(alloc, 1)?;
-    let cases = [(5, 1, Reply::Made(1)), (5, 2, Reply::Duplicate { index: 0, id: 1 }), (6, 2, Reply::Made(2))];
+    let cases = [
+        (5, 1, Reply::Made(1)),
+        (5, 2, Reply::Duplicate { index: 0, id: 1 }),
+        (6, 2, Reply::Made(2)),
+    ];
     for (n, id, expected) in &cases {
         let op = Op::New {
             class: 0,
@@ -141,11 +154,44 @@ fn a_seek_answers_the_next_pair_by_key_and_then_by_id(rt: HostRuntime) -> Result
     let last = 18446744073709551615;
     let cases = [
         (0, Place::Start, true, two(alloc, 0, 5)?, 1),
-        (0, Place::End, false, two(alloc, 18446744073709551615, 5)?, 2),
-        (0, Place::At { key: two(alloc, 7, 5)?, id: 0 }, true, two(alloc, 7, 5)?, 3),
-        (0, Place::At { key: two(alloc, 7, 5)?, id: last }, false, two(alloc, 7, 5)?, 5),
+        (
+            0,
+            Place::End,
+            false,
+            two(alloc, 18446744073709551615, 5)?,
+            2,
+        ),
+        (
+            0,
+            Place::At {
+                key: two(alloc, 7, 5)?,
+                id: 0,
+            },
+            true,
+            two(alloc, 7, 5)?,
+            3,
+        ),
+        (
+            0,
+            Place::At {
+                key: two(alloc, 7, 5)?,
+                id: last,
+            },
+            false,
+            two(alloc, 7, 5)?,
+            5,
+        ),
         (1, Place::End, false, number(alloc, 5)?, 5),
-        (1, Place::At { key: number(alloc, 5)?, id: 5 }, false, number(alloc, 5)?, 4),
+        (
+            1,
+            Place::At {
+                key: number(alloc, 5)?,
+                id: 5,
+            },
+            false,
+            number(alloc, 5)?,
+            4,
+        ),
     ];
     for (index, place, up, key, id) in cases {
         let op = Op::Seek {
@@ -166,7 +212,13 @@ fn a_seek_answers_the_next_pair_by_key_and_then_by_id(rt: HostRuntime) -> Result
     Ok(())
 }
 
-fn prefix(db: &mut Db, schema: &Schema, alloc: Global, how: How, text: &str) -> Result<Reply, Fail> {
+fn prefix(
+    db: &mut Db,
+    schema: &Schema,
+    alloc: Global,
+    how: How,
+    text: &str,
+) -> Result<Reply, Fail> {
     let op = Op::Prefix {
         class: 0,
         index: 0,
@@ -193,14 +245,38 @@ fn words_are_found_by_their_prefixes(rt: HostRuntime) -> Result<(), Fail> {
         };
         assert_eq!(rt; told(&mut db, &schema, &op)?, Reply::Made(id));
     }
-    assert_eq!(rt; prefix(&mut db, &schema, alloc, How::Longest, "abc")?, ids(alloc, &[3])?);
-    assert_eq!(rt; prefix(&mut db, &schema, alloc, How::Longest, "c")?, ids(alloc, &[1])?);
-    assert_eq!(rt; prefix(&mut db, &schema, alloc, How::Starting, "")?, ids(alloc, &[1, 2, 3, 4])?);
-    assert_eq!(rt; prefix(&mut db, &schema, alloc, How::Starting, "a")?, ids(alloc, &[2, 3])?);
-    assert_eq!(rt; prefix(&mut db, &schema, alloc, How::Exact, "a")?, ids(alloc, &[2])?);
-    assert_eq!(rt; told(&mut db, &schema, &Op::Del { class: 0, id: 2 })?, Reply::Done);
-    assert_eq!(rt; prefix(&mut db, &schema, alloc, How::Exact, "a")?, ids(alloc, &[])?);
-    assert_eq!(rt; prefix(&mut db, &schema, alloc, How::Longest, "a")?, ids(alloc, &[1])?);
+    assert_eq!(rt;
+        prefix(&mut db, &schema, alloc, How::Longest, "abc")?,
+        ids(alloc, &[3])?
+    );
+    assert_eq!(rt;
+        prefix(&mut db, &schema, alloc, How::Longest, "c")?,
+        ids(alloc, &[1])?
+    );
+    assert_eq!(rt;
+        prefix(&mut db, &schema, alloc, How::Starting, "")?,
+        ids(alloc, &[1, 2, 3, 4])?
+    );
+    assert_eq!(rt;
+        prefix(&mut db, &schema, alloc, How::Starting, "a")?,
+        ids(alloc, &[2, 3])?
+    );
+    assert_eq!(rt;
+        prefix(&mut db, &schema, alloc, How::Exact, "a")?,
+        ids(alloc, &[2])?
+    );
+    assert_eq!(rt;
+        told(&mut db, &schema, &Op::Del { class: 0, id: 2 })?,
+        Reply::Done
+    );
+    assert_eq!(rt;
+        prefix(&mut db, &schema, alloc, How::Exact, "a")?,
+        ids(alloc, &[])?
+    );
+    assert_eq!(rt;
+        prefix(&mut db, &schema, alloc, How::Longest, "a")?,
+        ids(alloc, &[1])?
+    );
     Ok(())
 }
 
@@ -214,7 +290,12 @@ fn boxes_include_their_edges(rt: HostRuntime) -> Result<(), Fail> {
     let least = -2147483648;
     let most = 2147483647;
     let mut id = 0;
-    for (x1, y1, x2, y2) in [(0, 0, 10, 10), (10, 0, 20, 10), (5, 5, 5, 5), (least, least, most, most)] {
+    for (x1, y1, x2, y2) in [
+        (0, 0, 10, 10),
+        (10, 0, 20, 10),
+        (5, 5, 5, 5),
+        (least, least, most, most),
+    ] {
         id += 1;
         let op = Op::New {
             class: 0,
@@ -226,14 +307,24 @@ fn boxes_include_their_edges(rt: HostRuntime) -> Result<(), Fail> {
     let corner = Op::Area {
         class: 0,
         index: 0,
-        rect: Rect { x1: 10, y1: 10, x2: 10, y2: 10 },
+        rect: Rect {
+            x1: 10,
+            y1: 10,
+            x2: 10,
+            y2: 10,
+        },
         inside: false,
     };
     assert_eq!(rt; told(&mut db, &schema, &corner)?, ids(alloc, &[1, 2, 4])?);
     let whole = Op::Area {
         class: 0,
         index: 0,
-        rect: Rect { x1: 0, y1: 0, x2: 10, y2: 10 },
+        rect: Rect {
+            x1: 0,
+            y1: 0,
+            x2: 10,
+            y2: 10,
+        },
         inside: true,
     };
     assert_eq!(rt; told(&mut db, &schema, &whole)?, ids(alloc, &[1, 3])?);

@@ -75,14 +75,41 @@ fn class_of(op: &Op) -> u32
     ensures { result ≡ class_of op.now }
 {
     match op {
-        Op::New { class, row: _, id: _ }
+        Op::New {
+            class,
+            row: _,
+            id: _,
+        }
         | Op::Get { class, id: _ }
-        | Op::Put { class, id: _, row: _ }
+        | Op::Put {
+            class,
+            id: _,
+            row: _,
+        }
         | Op::Del { class, id: _ }
-        | Op::Find { class, index: _, key: _ }
-        | Op::Seek { class, index: _, place: _, up: _ }
-        | Op::Area { class, index: _, rect: _, inside: _ }
-        | Op::Prefix { class, index: _, text: _, how: _ }
+        | Op::Find {
+            class,
+            index: _,
+            key: _,
+        }
+        | Op::Seek {
+            class,
+            index: _,
+            place: _,
+            up: _,
+        }
+        | Op::Area {
+            class,
+            index: _,
+            rect: _,
+            inside: _,
+        }
+        | Op::Prefix {
+            class,
+            index: _,
+            text: _,
+            how: _,
+        }
         | Op::Count { class } => *class,
     }
 }
@@ -92,7 +119,14 @@ fn written_by(op: &Op, told: &Reply) -> Option<(u32, u64)>
     ensures { result ≡ written_by (op.now, told.now) }
 {
     match (op, told) {
-        (Op::New { class, row: _, id: _ }, Reply::Made(id)) => Some((*class, *id)),
+        (
+            Op::New {
+                class,
+                row: _,
+                id: _,
+            },
+            Reply::Made(id),
+        ) => Some((*class, *id)),
         (Op::Put { class, id, row: _ }, Reply::Done) => Some((*class, *id)),
         (Op::Del { class, id }, Reply::Done) => Some((*class, *id)),
         _ => None,
@@ -105,24 +139,48 @@ pub fn rests(schema: &Schema, op: &Op, told: &Reply, id: u64, row: &Row) -> bool
     ensures { result ≡ rests schema.now op.now told.now id row.now }
 {
     match op {
-        Op::New { class, row: own, id: _ } => shares_key(class_indexes(schema, *class), own, row),
-        Op::Get { class: _, id: wanted } | Op::Del { class: _, id: wanted } => id == *wanted,
-        Op::Put { class, id: wanted, row: own } => {
-            id == *wanted || shares_key(class_indexes(schema, *class), own, row)
+        Op::New {
+            class,
+            row: own,
+            id: _,
+        } => shares_key(class_indexes(schema, *class), own, row),
+        Op::Get {
+            class: _,
+            id: wanted,
         }
+        | Op::Del {
+            class: _,
+            id: wanted,
+        } => id == *wanted,
+        Op::Put {
+            class,
+            id: wanted,
+            row: own,
+        } => { id == *wanted || shares_key(class_indexes(schema, *class), own, row) }
         Op::Find { class, index, key } => {
             compare_key(index_fields(schema, *class, *index), row, key).is_eq()
         }
-        Op::Seek { class, index, place, up } => {
+        Op::Seek {
+            class,
+            index,
+            place,
+            up,
+        } => {
             let fields = index_fields(schema, *class, *index);
             is_beyond(fields, id, row, place, *up) && is_within(fields, id, row, told, *up)
         }
-        Op::Area { class, index, rect, inside } => {
-            has_box(index_fields(schema, *class, *index), row, rect, *inside)
-        }
-        Op::Prefix { class, index, text, how } => {
-            has_related(index_fields(schema, *class, *index), row, *how, text)
-        }
+        Op::Area {
+            class,
+            index,
+            rect,
+            inside,
+        } => { has_box(index_fields(schema, *class, *index), row, rect, *inside) }
+        Op::Prefix {
+            class,
+            index,
+            text,
+            how,
+        } => { has_related(index_fields(schema, *class, *index), row, *how, text) }
         Op::Count { class: _ } => true,
     }
 }

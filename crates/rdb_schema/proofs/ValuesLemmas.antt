@@ -1,5 +1,5 @@
 -- Lists of values against lists of fields.
-use Rattle.std.proofs.Common.{◌≡◌, ◌≢◌, ℕ, zero, suc, ◌+◌, ◌<◌, Bool, true, false, ◌&&◌, List, [], ◌∷◌, length, drop, Option, Some, None, slice_get, refl, sym, ap, ◌∙◌, arith, add-one, ◌≤◌, min, inl, inr}
+use Rattle.std.proofs.Common.{◌≡◌, ℕ, zero, suc, ◌+◌, Bool, true, false, ◌&&◌, List, [], ◌∷◌, length, drop, Some, slice_get, refl, sym, ap, ◌∙◌, arith, add-one, ◌≤◌, min, inl, inr}
 use Rattle.std.proofs.lemmas.Bool.{cases_lt}
 use Rattle.std.proofs.lemmas.List.{drop_all}
 use Rattle.rdb_base.specs.declared.value.Leaf.{Leaf}
@@ -69,10 +69,10 @@ pub leaves_length_end : (fs : List Field) (ls : List Leaf) (i : ℕ) → min (le
 leaves_length_end fs ls i over = elim (cases_lt i (length fs)) [
   | inr le ↦ ap (λ r. leaves_length r (drop i ls)) (drop_all i fs le)
   | inl gt ↦ ap (λ r. leaves_length (drop i fs) r) (drop_all i ls (omega arith)) ∙ leaves_length_none (drop i fs)
-  ]
+]
 
 pub values_length_end : (schema : Schema) (fs : List Field) (vs : List Value) (i : ℕ) → min (length fs) (length vs) ≤ i → values_length schema (drop i fs) (drop i vs) ≡ 0
 values_length_end schema fs vs i over = elim (cases_lt i (length fs)) [
   | inr le ↦ ap (λ r. values_length schema r (drop i vs)) (drop_all i fs le)
   | inl gt ↦ ap (λ r. values_length schema (drop i fs) r) (drop_all i vs (omega arith)) ∙ values_length_none schema (drop i fs)
-  ]
+]

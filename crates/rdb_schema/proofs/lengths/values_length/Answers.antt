@@ -1,6 +1,5 @@
 -- One more length goes from what is left to the total.
-use Rattle.std.proofs.Common.{◌≡◌, ◌+◌, drop, arith}
-use Rattle.rdb_schema.specs.Values.{values_length}
+use Rattle.std.proofs.Common.{arith}
 use Rattle.rdb_schema.proofs.ValuesLemmas.{values_length_more, values_length_end}
 use Rattle.rdb_schema.proofs.lengths.values_length.Goals as goal
 
