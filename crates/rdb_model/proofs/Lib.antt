@@ -5,3 +5,4 @@ pub mod SeekLemmas
 pub mod FitsLemmas
 pub mod FittingLemmas
 pub mod TouchLemmas
+pub mod LawsLemmas

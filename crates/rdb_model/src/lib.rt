@@ -6,6 +6,7 @@ pub mod db;
 mod declared;
 pub mod fitting;
 mod keys;
+pub mod laws;
 pub mod legality;
 mod lookups;
 pub mod objects;
