@@ -111,5 +111,9 @@ fn leaf_length(ty: &FieldType, leaf: &Leaf) -> u32
 fn one_more(n: usize) -> u32
     ensures { result ≡ capped (1 + n) }
 {
-    if n < u32::MAX as usize { n as u32 + 1 } else { u32::MAX }
+    if n < u32::MAX as usize {
+        n as u32 + 1
+    } else {
+        u32::MAX
+    }
 }
