@@ -1,12 +1,14 @@
 //! Schemas: what classes, fields, indexes and events a database has.
 #![tactic(auto)]
 
-pub mod printed;
 mod declared;
 mod first_fault;
+pub mod lengths;
+pub mod printed;
 mod resolver;
 mod rules;
 pub mod schema;
 pub mod syntax;
+pub mod values;
 
 pub use resolver::resolve;
