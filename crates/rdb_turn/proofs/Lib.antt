@@ -1,0 +1,4 @@
+pub mod Beginnings
+pub mod Sums
+pub mod Kept
+pub mod Passing
