@@ -1,4 +1,22 @@
 //! Values, ids, the journal's types and the traits of the outside, on which all other crates stand.
 #![tactic(auto)]
 
+pub mod duplicate;
 pub mod chronicle;
+pub mod files;
+pub mod folder;
+pub mod gate;
+pub mod identity;
+pub mod journal;
+pub mod list;
+pub mod listed_deaths;
+pub mod liveness;
+pub mod memory_files;
+pub mod memory_sink;
+pub mod operation;
+pub mod order;
+pub mod sink;
+pub mod steps;
+pub mod sure;
+pub mod text;
+pub mod value;

@@ -1,0 +1,3 @@
+pub mod Decimal
+pub mod PlainClient
+pub mod Reading
