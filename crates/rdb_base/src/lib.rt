@@ -1,8 +1,8 @@
 //! Values, ids, the journal's types and the traits of the outside, on which all other crates stand.
 #![tactic(auto)]
 
-pub mod duplicate;
 pub mod chronicle;
+pub mod duplicate;
 pub mod files;
 pub mod folder;
 pub mod gate;

@@ -10,6 +10,7 @@ use crate::view::View;
 use crate::waiting::{wait_for, wake};
 use atomic_table::Table;
 use rdb_base::chronicle::Chronicle;
+use rdb_base::list::NoMemory;
 use std::alloc::{AllocError, Global};
 use std::snapshot::Snapshot;
 use std::sync::Wait;
@@ -38,7 +39,7 @@ impl<T: Chronicle> Turn<T> {
     ghost use Rattle.rdb_turn.specs.Turns.{IsPassOf, base_of};
 
     /// Makes a lock round a value, and its first pass.
-    pub fn make(alloc: Global, value: T) -> Result<(Turn<T>, Pass<T>), AllocError>
+    pub fn make(alloc: Global, value: T) -> Result<(Turn<T>, Pass<T>), NoMemory>
         ensures pass { IfOk result (λ r. IsPassOf T.base r.0 r.1) }
         ensures base { IfOk result (λ r. base_of T.base r.0 ≡ T.base value) }
         ensures seen { IfOk result (λ r. seen T.history r.1 ≡ T.history value) }
@@ -114,7 +115,7 @@ impl<T: Chronicle> Turn<T> {
     }
 
     /// A second pass, which has seen what this one has. There are fewer than 2^64 passes of a turn, and each split halves how many a pass may become.
-    pub fn split(&self, pass: &mut Pass<T>) -> Result<Pass<T>, AllocError>
+    pub fn split(&self, pass: &mut Pass<T>) -> Result<Pass<T>, NoMemory>
         requires pass { IsPassOf T.base self.now pass.old }
         requires away { has_turn pass.old ≡ false }
         ensures new { IfOk result (λ p. IsPassOf T.base self.now p) }
