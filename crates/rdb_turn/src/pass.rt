@@ -10,6 +10,8 @@ pub struct Pass<T> {
     pub(crate) turns: u64,
     /// How many passes it may become.
     pub(crate) shares: u64,
+    /// Whose it is: a client, or 0 for nobody's.
+    pub(crate) client: u32,
     /// Its last ticket.
     pub(crate) ticket: u64,
 }

@@ -1,9 +1,12 @@
 //! One function for each kind of step on the lock's words and its slot. What a step tells is said of the pass's view.
-ghost use Rattle.std.specs.Prelude.{◌≡◌, ℕ, ◌+◌, ◌%◌, ◌^◌, ◌<◌, [], ◌∷◌, Some, None};
-ghost use Rattle.rdb_turn.specs.declared.view.Stand.TheVariants.{Away, Waits, Inside};
-ghost use Rattle.rdb_turn.specs.Steps.{IsAt, IsSamePlace, MayRaise, MayRelease, Draws, Looks, Raises, Releases, Fronts, Settles, half_kept, half_given, both_views};
+ghost use Rattle.std.specs.Prelude.{◌≡◌, ℕ, ◌+◌, ◌<◌, ◌≤◌, [], ◌∷◌, Some, None, true};
+ghost use Rattle.rdb_turn.specs.declared.view.Stand.TheVariants.{Away, Waits};
+ghost use Rattle.rdb_turn.specs.Rule.{OwnsSlot, IsClient};
+ghost use Rattle.rdb_turn.specs.Steps.{IsAt, IsSamePlace, MayRaise, MayRelease, Draws, Looks, Raises, Releases, Fronts, Settles, Marks, Stops, Sees, half_kept, half_given, part_kept, part_given, both_views};
 
-use crate::plays::{Both, Draw, Front, Halves, Look, Raise, Release, Settle};
+use crate::plays::{
+    Both, Draw, Front, Halves, Look, Mark, Parts, Raise, Release, See, Settle, Stop,
+};
 use crate::rule::{Board, Place};
 use rdb_base::chronicle::Chronicle;
 
@@ -16,8 +19,14 @@ pub(crate) const SERVING: usize = 1;
 /// The word with the published length.
 pub(crate) const FRONT: usize = 2;
 
+/// The words of the board, for the clients 1 to 16.
+pub(crate) const CLIENTS: usize = 16;
+
 /// The slot of the value.
 pub(crate) const SLOT: usize = 0;
+
+/// What stands in the word of a client that has stopped.
+const STOPPED: u64 = 1;
 
 /// Draws a ticket.
 pub(crate) fn draw<T: Chronicle>(board: &Board<T>, place: &mut Place<T>) -> u64
@@ -34,7 +43,7 @@ pub(crate) fn look<T: Chronicle>(board: &Board<T>, place: &mut Place<T>) -> u64
     requires table { IsAt board.now.table_id place.old }
     requires waits { (n : ℕ) × (place.old.me.0.stand ≡ Waits n) }
     ensures same { IsSamePlace place.old place.new }
-    ensures looked { Looks T.history T.base place.old.me result place.new.me }
+    ensures looked { Looks T.Chronicle place.old.me result place.new.me }
 {
     board.load::<Look>(place, SERVING)
 }
@@ -62,9 +71,10 @@ pub(crate) fn put<T: Chronicle>(board: &Board<T>, place: &mut Place<T>, value: T
 /// Publishes the length of the value that lies in the slot.
 pub(crate) fn raise<T: Chronicle>(board: &Board<T>, place: &mut Place<T>, length: u64)
     requires table { IsAt board.now.table_id place.old }
-    requires may { MayRaise T.history T.base place.old.me length }
+    requires may { MayRaise T.Chronicle place.old.me length }
+    requires boarded { board.now.key.boarded ≡ true → place.old.me.0.boarded ≡ true }
     ensures same { IsSamePlace place.old place.new }
-    ensures raised { Raises place.old.me place.new.me }
+    ensures raised { Raises T.Chronicle place.old.me place.new.me }
 {
     board.store::<Raise>(place, FRONT, length);
 }
@@ -83,7 +93,7 @@ pub(crate) fn release<T: Chronicle>(board: &Board<T>, place: &mut Place<T>, next
 pub(crate) fn look_front<T: Chronicle>(board: &Board<T>, place: &mut Place<T>) -> u64
     requires table { IsAt board.now.table_id place.old }
     ensures same { IsSamePlace place.old place.new }
-    ensures looked { Fronts T.history T.base place.old.me result place.new.me }
+    ensures looked { Fronts T.Chronicle place.old.me result place.new.me }
 {
     board.load::<Front>(place, FRONT)
 }
@@ -97,6 +107,27 @@ pub(crate) fn halve<T: Chronicle>(board: &Board<T>, place: &mut Place<T>) -> Pla
     ensures given { result.me ≡ (half_given place.old.me.0, []) }
 {
     board.split_seat::<Halves>(place)
+}
+
+/// Notes the slot whose part is cut off next. The word is compared with the slot and left as it is.
+pub(crate) fn mark<T: Chronicle>(board: &Board<T>, place: &mut Place<T>, slot: u64)
+    requires table { IsAt board.now.table_id place.old }
+    ensures same { IsSamePlace place.old place.new }
+    ensures marked { Marks slot place.old.me place.new.me }
+{
+    board.compare_exchange::<Mark>(place, TICKET, slot, slot);
+}
+
+/// Cuts the part that was noted off, for a pass of its own.
+pub(crate) fn cut_off<T: Chronicle>(board: &Board<T>, place: &mut Place<T>) -> Place<T>
+    requires table { IsAt board.now.table_id place.old }
+    requires away { place.old.me.0.stand ≡ Away }
+    requires owns { OwnsSlot place.old.me.0.owned place.old.me.0.parting }
+    ensures same { IsSamePlace place.old place.new × (result.table_id ≡ place.old.table_id) }
+    ensures kept { place.new.me ≡ (part_kept place.old.me.0, place.old.me.1) }
+    ensures given { result.me ≡ (part_given place.old.me.0, []) }
+{
+    board.split_seat::<Parts>(place)
 }
 
 /// Makes one pass of two, which has seen what both have.
@@ -115,7 +146,27 @@ pub(crate) fn settle<T: Chronicle>(board: &Board<T>, place: &mut Place<T>)
     requires away { place.old.me.0.stand ≡ Away }
     requires two { (a : T) × (b : T) × (place.old.me.0.seen ≡ a ∷ b ∷ []) }
     ensures same { IsSamePlace place.old place.new }
-    ensures settled { Settles T.history T.base place.old.me place.new.me }
+    ensures settled { Settles T.Chronicle place.old.me place.new.me }
 {
     board.load::<Settle>(place, SERVING);
+}
+
+/// Writes the word of a client whose part the pass owns.
+pub(crate) fn stop<T: Chronicle>(board: &Board<T>, place: &mut Place<T>, client: usize)
+    requires table { IsAt board.now.table_id place.old }
+    requires client { IsClient client × OwnsSlot place.old.me.0.owned client }
+    ensures same { IsSamePlace place.old place.new }
+    ensures stopped { Stops client place.old.me place.new.me }
+{
+    board.store::<Stop>(place, FRONT + client, STOPPED);
+}
+
+/// Looks whether a client has stopped.
+pub(crate) fn see<T: Chronicle>(board: &Board<T>, place: &mut Place<T>, client: usize) -> u64
+    requires table { IsAt board.now.table_id place.old }
+    requires client { IsClient client }
+    ensures same { IsSamePlace place.old place.new }
+    ensures saw { Sees client place.old.me result place.new.me }
+{
+    board.load::<See>(place, FRONT + client)
 }

@@ -1,13 +1,12 @@
 //! What threads see of a turn, over a small log.
 
-ghost use Rattle.std.specs.Prelude.{◌≡◌, ◌+◌, ◌<◌, ◌++◌, ◌∷◌, [], false, OnOk, OnErr};
-ghost use denote.Param.Send.{IsSync};
-ghost use Rattle.rdb_turn.specs.Passes.{has_turn};
-ghost use Rattle.rdb_turn.specs.Turns.{IsPassOf};
+ghost use Rattle.std.specs.Prelude.{◌≡◌, ◌<◌, [], true, false};
+ghost use mathlib.Core.List.{IsPrefix};
+ghost use Rattle.rdb_turn.specs.Passes.{known, seen, IsPassOf, base_of};
 
 use crate::{Pass, Turn, TurnOut};
 use rdb_base::chronicle::Chronicle;
-use rdb_base::list::{List, NoMemory};
+use rdb_base::list::List;
 use std::alloc::Global;
 use std::sync::Wait;
 use std::test::Fail;
@@ -65,27 +64,52 @@ impl Log {
         }
     }
 
-    fn add(&mut self, client: u32, number: u32) -> Result<(), NoMemory>
+    /// Adds a line, if there is memory.
+    fn add(&mut self, client: u32, number: u32)
         ensures title { self.new.title ≡ self.old.title }
-        ensures ok { OnOk result (self.new.lines ≡ self.old.lines ++ record { client = client; number = number } ∷ []) }
-        ensures err { OnErr result (self.new.lines ≡ self.old.lines) }
+        ensures later { IsPrefix self.old.lines self.new.lines }
     {
-        self.lines.push(Line { client, number })
+        let _ = self.lines.push(Line { client, number });
     }
 
     /// Whether this client's numbers are 0, 1 and so on up to `count`.
     fn has_in_order(&self, client: u32, count: u32) -> bool {
-        let mut next = 0;
+        let mut next = 0u32;
         for line in self.lines.as_slice() {
             if line.client == client {
                 if line.number != next || next == count {
                     return false;
                 }
-                next += 1;
+                next = next.saturating_add(1);
             }
         }
         next == count
     }
+}
+
+/// Gives a log back, to which lines were added.
+fn give_back(turn: &Turn<Log>, pass: &mut Pass<Log>, log: Log)
+    requires pass { IsPassOf ⟦<Log as Chronicle>⟧ turn.now pass.old }
+    requires holds { (known pass.old).has_turn ≡ true }
+    requires gone { (known pass.old).gone ≡ [] }
+    requires title { log.title ≡ base_of ⟦<Log as Chronicle>⟧ turn.now }
+    requires later { IsPrefix (seen ⟦<Log as Chronicle>⟧ pass.old) log.lines }
+    ensures away { (known pass.new).has_turn ≡ false }
+    ensures pass { IsPassOf ⟦<Log as Chronicle>⟧ turn.now pass.new }
+{
+    turn.leave(pass, log);
+}
+
+/// Adds a line in a turn of its own, if there is memory.
+fn write_line<R: Wait>(rt: &R, turn: &Turn<Log>, pass: &mut Pass<Log>, client: u32, number: u32)
+    requires pass { IsPassOf ⟦<Log as Chronicle>⟧ turn.now pass.old }
+    requires away { (known pass.old).has_turn ≡ false }
+    ensures away { (known pass.new).has_turn ≡ false }
+    ensures pass { IsPassOf ⟦<Log as Chronicle>⟧ turn.now pass.new }
+{
+    let mut log = turn.enter(rt, pass);
+    log.add(client, number);
+    give_back(turn, pass, log);
 }
 
 #[test]
@@ -93,10 +117,7 @@ fn the_front_moves_while_another_has_the_turn(rt: HostRuntime) -> Result<(), Fai
     let (turn, mut first) = Turn::make(rt.alloc(), Log::new(rt.alloc()))?;
     let mut second = turn.split(&mut first)?;
     let before = turn.front(&mut second);
-    let mut log = turn.enter(&rt, &mut first);
-    let added = log.add(1, 0);
-    turn.leave(&mut first, log);
-    added?;
+    write_line(&rt, &turn, &mut first, 1, 0);
     let held = turn.enter(&rt, &mut first);
     let after = turn.front(&mut second);
     let closed = turn.close(second);
@@ -105,7 +126,13 @@ fn the_front_moves_while_another_has_the_turn(rt: HostRuntime) -> Result<(), Fai
     let Err(out) = closed else {
         panic!(rt; "a ticket was out")
     };
-    assert_eq!(rt; out, TurnOut { ticket: 2, serving: 1 });
+    assert_eq!(rt;
+        out,
+        TurnOut {
+            ticket: 2,
+            serving: 1
+        }
+    );
     Ok(())
 }
 
@@ -114,13 +141,10 @@ fn the_front_moves_while_a_third_has_the_turn(rt: HostRuntime) -> Result<(), Fai
     let (turn, mut first) = Turn::make(rt.alloc(), Log::new(rt.alloc()))?;
     let mut second = turn.split(&mut first)?;
     let mut third = turn.split(&mut first)?;
-    let mut log = turn.enter(&rt, &mut first);
-    let added = log.add(1, 0);
-    turn.leave(&mut first, log);
-    added?;
+    write_line(&rt, &turn, &mut first, 1, 0);
     let held = turn.enter(&rt, &mut third);
     let seen = turn.front(&mut second);
-    turn.leave(&mut third, held);
+    give_back(&turn, &mut third, held);
     turn.meet(&mut first, second);
     turn.meet(&mut first, third);
     let Ok(log) = turn.close(first) else {
@@ -130,54 +154,77 @@ fn the_front_moves_while_a_third_has_the_turn(rt: HostRuntime) -> Result<(), Fai
     Ok(())
 }
 
+#[test]
+fn a_client_has_stopped_once_it_wrote_so(rt: HostRuntime) -> Result<(), Fail> {
+    let (turn, mut first) = Turn::make_boarded(rt.alloc(), Log::new(rt.alloc()))?;
+    let mut client = turn.split_for(&mut first, 1)?;
+    let before = turn.stopped(&mut first, 1);
+    turn.write_stop(&mut client);
+    let after = turn.stopped(&mut first, 1);
+    let other = turn.stopped(&mut first, 2);
+    assert!(rt; turn.boarded());
+    assert_eq!(rt; (before, after, other), (false, true, false));
+    Ok(())
+}
+
 const CLIENTS: u32 = 8;
 
 const LINES: u32 = 1000;
 
 /// Adds a client's lines, each in a turn of its own.
 fn write<R: Wait>(rt: &R, turn: &Turn<Log>, mut pass: Pass<Log>, client: u32) -> Pass<Log>
-    requires { IsPassOf ⟦<Log as Chronicle>⟧.base turn.now pass × (has_turn pass ≡ false) }
-    ensures { IsPassOf ⟦<Log as Chronicle>⟧.base turn.now result × (has_turn result ≡ false) }
+    requires { IsPassOf ⟦<Log as Chronicle>⟧ turn.now pass × ((known pass).has_turn ≡ false) }
+    ensures { IsPassOf ⟦<Log as Chronicle>⟧ turn.now result × ((known result).has_turn ≡ false) }
 {
     for number in 0..LINES {
-        let mut log = turn.enter(rt, &mut pass);
-        let _ = log.add(client, number);
-        turn.leave(&mut pass, log);
+        write_line(rt, turn, &mut pass, client, number);
     }
     pass
 }
 
-/// Lets `count` clients write, from `first` on, each in a thread of its own.
-fn write_all<R: Threads + Wait + Sync>(
+/// Lets two clients write, each in a thread of its own.
+fn write_two<R: Threads + Wait + Sync>(
     rt: &R,
     turn: &Turn<Log>,
     mut pass: Pass<Log>,
     first: u32,
-    count: u32,
 ) -> Pass<Log>
-    requires pass { IsPassOf ⟦<Log as Chronicle>⟧.base turn.now pass × (has_turn pass ≡ false) }
-    requires few { first + count < 100 }
-    ensures { IsPassOf ⟦<Log as Chronicle>⟧.base turn.now result × (has_turn result ≡ false) }
+    requires pass { IsPassOf ⟦<Log as Chronicle>⟧ turn.now pass × ((known pass).has_turn ≡ false) }
+    requires few { first < 100 }
+    ensures { IsPassOf ⟦<Log as Chronicle>⟧ turn.now result × ((known result).has_turn ≡ false) }
 {
-    if count < 2 {
-        return write(rt, turn, pass, first);
-    }
-    let half = count / 2;
-    let second = first + half;
-    let rest = count - half;
     let Ok(other) = turn.split(&mut pass) else {
         return pass;
     };
+    let second = first + 1;
     let (mut pass, other) = join(
         rt,
-        move || -> Pass<Log>
-            requires { IsSync R.row × IsPassOf ⟦<Log as Chronicle>⟧.base turn.now pass × (has_turn pass ≡ false) × (first + half < 100) × (half < count) }
-            ensures { IsPassOf ⟦<Log as Chronicle>⟧.base turn.entry.now result × (has_turn result ≡ false) }
-        { write_all(rt, turn, pass, first, half) },
-        move || -> Pass<Log>
-            requires { IsSync R.row × IsPassOf ⟦<Log as Chronicle>⟧.base turn.now other × (has_turn other ≡ false) × (second + rest < 100) × (rest < count) }
-            ensures { IsPassOf ⟦<Log as Chronicle>⟧.base turn.entry.now result × (has_turn result ≡ false) }
-        { write_all(rt, turn, other, second, rest) },
+        move || write(rt, turn, pass, first),
+        move || write(rt, turn, other, second),
+    );
+    turn.meet(&mut pass, other);
+    pass
+}
+
+/// Lets four clients write, each in a thread of its own.
+fn write_four<R: Threads + Wait + Sync>(
+    rt: &R,
+    turn: &Turn<Log>,
+    mut pass: Pass<Log>,
+    first: u32,
+) -> Pass<Log>
+    requires pass { IsPassOf ⟦<Log as Chronicle>⟧ turn.now pass × ((known pass).has_turn ≡ false) }
+    requires few { first < 90 }
+    ensures { IsPassOf ⟦<Log as Chronicle>⟧ turn.now result × ((known result).has_turn ≡ false) }
+{
+    let Ok(other) = turn.split(&mut pass) else {
+        return pass;
+    };
+    let third = first + 2;
+    let (mut pass, other) = join(
+        rt,
+        move || write_two(rt, turn, pass, first),
+        move || write_two(rt, turn, other, third),
     );
     turn.meet(&mut pass, other);
     pass
@@ -185,9 +232,16 @@ fn write_all<R: Threads + Wait + Sync>(
 
 #[test]
 fn eight_threads_lose_no_line(rt: HostRuntime) -> Result<(), Fail> {
-    let (turn, pass) = Turn::make(rt.alloc(), Log::new(rt.alloc()))?;
-    let pass = write_all(&rt, &turn, pass, 0, CLIENTS);
-    let Ok(log) = turn.close(pass) else {
+    let (made, mut pass) = Turn::make(rt.alloc(), Log::new(rt.alloc()))?;
+    let turn = &made;
+    let other = turn.split(&mut pass)?;
+    let (mut pass, other) = join(
+        &rt,
+        || write_four(&rt, turn, pass, 0),
+        || write_four(&rt, turn, other, 4),
+    );
+    turn.meet(&mut pass, other);
+    let Ok(log) = made.close(pass) else {
         panic!(rt; "no ticket was out")
     };
     assert_eq!(rt; log.length(), 8000);

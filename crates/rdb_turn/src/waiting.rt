@@ -26,7 +26,7 @@ pub(crate) fn wait_for<T: Chronicle, R: Wait>(
     requires table { IsAt board.now.table_id place.old }
     requires waits { (n : ℕ) × (place.old.me.0.stand ≡ Waits n) × (n % 2 ^ 64 ≡ ticket) }
     ensures same { IsSamePlace place.old place.new }
-    ensures enters { (n : ℕ) × (n % 2 ^ 64 ≡ ticket) × Enters T.history T.base place.old.me n place.new.me }
+    ensures enters { (n : ℕ) × (n % 2 ^ 64 ≡ ticket) × Enters T.Chronicle place.old.me n place.new.me }
 {
     let mut looks = 0;
     for _ in rt.forever() {
@@ -42,7 +42,7 @@ pub(crate) fn wait_for<T: Chronicle, R: Wait>(
 
 /// Spins, lets others run, or sleeps until another ticket than `serving` is served.
 fn rest<T: Chronicle, R: Wait>(rt: &R, board: &Board<T>, serving: u64, looks: u32)
-    requires { board.now.table_id.words ≡ 3 }
+    requires { board.now.table_id.words ≡ 19 }
 {
     if looks < SPINS {
         spin_loop();
@@ -55,7 +55,7 @@ fn rest<T: Chronicle, R: Wait>(rt: &R, board: &Board<T>, serving: u64, looks: u3
 
 /// Wakes those who sleep, if a ticket from `next` on is out.
 pub(crate) fn wake<T: Chronicle>(board: &Board<T>, next: u64)
-    requires { board.now.table_id.words ≡ 3 }
+    requires { board.now.table_id.words ≡ 19 }
 {
     if board.peek(TICKET) != next {
         board.wake_all(SERVING);

@@ -3,4 +3,4 @@ use Rattle.rdb_turn.proofs.Kept.{settles}
 use Rattle.rdb_turn.proofs.steps.settle.Goals as goal
 
 pub load-requires : goal.load-requires
-load-requires g c = (search rules, search rules, settles g.T.Chronicle.history g.T.Chronicle.base _ _ _ _ c.requires.two.0 c.requires.two.1 c.requires.away c.requires.two.2)
+load-requires g c = (search rules, search rules, settles g.T.Chronicle _ _ _ _ _ c.requires.two.0 c.requires.two.1 c.requires.away c.requires.two.2)
