@@ -8,6 +8,7 @@ use crate::{Pass, Turn, TurnOut};
 use rdb_base::chronicle::Chronicle;
 use rdb_base::list::List;
 use std::alloc::Global;
+use std::marker::Model;
 use std::sync::Wait;
 use std::test::Fail;
 use std::thread::{Threads, join};
@@ -171,77 +172,86 @@ const CLIENTS: u32 = 8;
 
 const LINES: u32 = 1000;
 
-/// Adds a client's lines, each in a turn of its own.
-fn write<R: Wait>(rt: &R, turn: &Turn<Log>, mut pass: Pass<Log>, client: u32) -> Pass<Log>
-    requires { IsPassOf ⟦<Log as Chronicle>⟧ turn.now pass × ((known pass).has_turn ≡ false) }
-    ensures { IsPassOf ⟦<Log as Chronicle>⟧ turn.now result × ((known result).has_turn ≡ false) }
-{
-    for number in 0..LINES {
-        write_line(rt, turn, &mut pass, client, number);
+/// A pass with its turn, which it does not hold.
+#[derive(Drop)]
+struct Writer<'a> {
+    turn: &'a Turn<Log>,
+    pass: Pass<Log>,
+}
+
+impl<'a> Model for Writer<'a> {
+    ghost Value = { Unit {0} };
+
+    ghost view = { λ _. tt };
+
+    ghost invariant = { λ w. IsPassOf ⟦<Log as Chronicle>⟧ w.turn.now w.pass × ((known w.pass).has_turn ≡ false) };
+}
+
+impl<'a> Writer<'a> {
+    fn line<R: Wait>(&mut self, rt: &R, client: u32, number: u32) {
+        write_line(rt, self.turn, &mut self.pass, client, number);
     }
-    pass
+
+    fn fork(&mut self) -> Option<Writer<'a>> {
+        let pass = self.turn.split(&mut self.pass).ok()?;
+        Some(Writer {
+            turn: self.turn,
+            pass,
+        })
+    }
+}
+
+/// Adds a client's lines, each in a turn of its own.
+fn write<R: Wait>(rt: &R, mut writer: Writer, client: u32) {
+    for number in 0..LINES {
+        writer.line(rt, client, number);
+    }
 }
 
 /// Lets two clients write, each in a thread of its own.
-fn write_two<R: Threads + Wait + Sync>(
-    rt: &R,
-    turn: &Turn<Log>,
-    mut pass: Pass<Log>,
-    first: u32,
-) -> Pass<Log>
-    requires pass { IsPassOf ⟦<Log as Chronicle>⟧ turn.now pass × ((known pass).has_turn ≡ false) }
-    requires few { first < 100 }
-    ensures { IsPassOf ⟦<Log as Chronicle>⟧ turn.now result × ((known result).has_turn ≡ false) }
-{
-    let Ok(other) = turn.split(&mut pass) else {
-        return pass;
+fn write_two<R: Threads + Wait + Sync>(rt: &R, mut writer: Writer, first: u32) {
+    let Some(other) = writer.fork() else {
+        return;
     };
-    let second = first + 1;
-    let (mut pass, other) = join(
+    let second = first.wrapping_add(1);
+    join(
         rt,
-        move || write(rt, turn, pass, first),
-        move || write(rt, turn, other, second),
+        move || write(rt, writer, first),
+        move || write(rt, other, second),
     );
-    turn.meet(&mut pass, other);
-    pass
 }
 
 /// Lets four clients write, each in a thread of its own.
-fn write_four<R: Threads + Wait + Sync>(
-    rt: &R,
-    turn: &Turn<Log>,
-    mut pass: Pass<Log>,
-    first: u32,
-) -> Pass<Log>
-    requires pass { IsPassOf ⟦<Log as Chronicle>⟧ turn.now pass × ((known pass).has_turn ≡ false) }
-    requires few { first < 90 }
-    ensures { IsPassOf ⟦<Log as Chronicle>⟧ turn.now result × ((known result).has_turn ≡ false) }
-{
-    let Ok(other) = turn.split(&mut pass) else {
-        return pass;
+fn write_four<R: Threads + Wait + Sync>(rt: &R, mut writer: Writer, first: u32) {
+    let Some(other) = writer.fork() else {
+        return;
     };
-    let third = first + 2;
-    let (mut pass, other) = join(
+    let third = first.wrapping_add(2);
+    join(
         rt,
-        move || write_two(rt, turn, pass, first),
-        move || write_two(rt, turn, other, third),
+        move || write_two(rt, writer, first),
+        move || write_two(rt, other, third),
     );
-    turn.meet(&mut pass, other);
-    pass
+}
+
+/// Lets eight clients write, each in a thread of its own.
+fn write_eight<R: Threads + Wait + Sync>(rt: &R, mut writer: Writer) {
+    let Some(other) = writer.fork() else {
+        return;
+    };
+    join(
+        rt,
+        move || write_four(rt, writer, 0),
+        move || write_four(rt, other, 4),
+    );
 }
 
 #[test]
 fn eight_threads_lose_no_line(rt: HostRuntime) -> Result<(), Fail> {
-    let (made, mut pass) = Turn::make(rt.alloc(), Log::new(rt.alloc()))?;
-    let turn = &made;
-    let other = turn.split(&mut pass)?;
-    let (mut pass, other) = join(
-        &rt,
-        || write_four(&rt, turn, pass, 0),
-        || write_four(&rt, turn, other, 4),
-    );
-    turn.meet(&mut pass, other);
-    let Ok(log) = made.close(pass) else {
+    let (turn, mut first) = Turn::make(rt.alloc(), Log::new(rt.alloc()))?;
+    let pass = turn.split(&mut first)?;
+    write_eight(&rt, Writer { turn: &turn, pass });
+    let Ok(log) = turn.close(first) else {
         panic!(rt; "no ticket was out")
     };
     assert_eq!(rt; log.length(), 8000);
