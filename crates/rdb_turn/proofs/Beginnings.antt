@@ -1,5 +1,5 @@
 -- Beginnings of lists, and what a value that comes of another keeps.
-use Rattle.std.proofs.Common.{◌≡◌, ℕ, ◌<◌, ◌≤◌, List, [], ◌∷◌, ◌++◌, length, refl, ap, sym, subst, inl, inr, Contains, ◌∙◌, arith, append_assoc, append-nil, length-append}
+use Rattle.std.proofs.Common.{◌≡◌, ℕ, ◌≤◌, List, [], ◌∷◌, ◌++◌, length, refl, ap, sym, subst, inl, inr, Contains, ◌∙◌, arith, append_assoc, append-nil, length-append}
 use mathlib.Core.List.{IsPrefix}
 use Rattle.rdb_base.specs.declared.chronicle.Chronicle.{Ghosts}
 use Rattle.rdb_turn.specs.Rule.{Follows, FollowsAll, KeepsPart}

@@ -17,8 +17,8 @@ use Rattle.rdb_base.specs.declared.chronicle.Chronicle.{Ghosts}
 use Rattle.rdb_turn.specs.declared.view.View.{View}
 use Rattle.rdb_turn.specs.declared.view.Stand.{Stand}
 use Rattle.rdb_turn.specs.declared.view.Stand.TheVariants.{Away, Waits, Inside}
-use Rattle.rdb_turn.specs.Rule.{all_shares, turns_held, tickets_out, first_view, held_of, out_of, shares_of, IsClient, IsStopped, Owns, OwnsSlot, parts_below, Follows, FollowsAll, KeepsPart, Stands, KnowsParts, Knows, Keeps}
-use Rattle.rdb_turn.specs.Steps.{Mine, standing, seeing, knowing, left_in, without, only, Draws, Looks, Raises, Releases, Fronts, Settles, Marks, Stops, Sees, MayLeave, MayRaise, MayRelease, Welcomes, longer, entered, published, half_kept, half_given, part_kept, part_given, both_views, spent_view}
+use Rattle.rdb_turn.specs.Rule.{turns_held, tickets_out, first_view, held_of, out_of, shares_of, IsClient, IsStopped, Owns, OwnsSlot, Follows, FollowsAll, KeepsPart, Stands, KnowsParts, Knows, Keeps}
+use Rattle.rdb_turn.specs.Steps.{Mine, standing, seeing, knowing, left_in, Draws, Looks, Raises, Releases, Fronts, Settles, Marks, Stops, Sees, MayLeave, MayRaise, MayRelease, longer, entered, published, half_kept, half_given, part_kept, part_given, both_views, spent_view}
 use Rattle.rdb_turn.proofs.Beginnings.{follows_itself, follows_further, follows_between, all_further, all_of_both, part_further}
 use Rattle.rdb_turn.proofs.Parts.{owned_below, owned_left, owned_both, owned_without, owned_only}
 use Rattle.rdb_turn.proofs.Sums.{sum_set, sum_at, sum_below, sum_none}

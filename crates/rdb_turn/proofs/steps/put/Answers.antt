@@ -1,4 +1,4 @@
-use Rattle.std.proofs.Common.{rules, sym, ap, ◌∙◌, ◌∷◌, None, ◌≡◌}
+use Rattle.std.proofs.Common.{sym, ap, ◌∙◌, ◌∷◌, None}
 use Rattle.atomic_table.specs.Table.{rest}
 use Rattle.rdb_turn.proofs.steps.put.Goals as goal
 

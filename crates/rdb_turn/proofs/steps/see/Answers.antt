@@ -1,4 +1,4 @@
-use Rattle.std.proofs.Common.{rules, ◌≡◌, ◌+◌, ◌-◌, ◌<◌, ℕ, subst, arith}
+use Rattle.std.proofs.Common.{rules, ◌≡◌, ◌+◌, ◌-◌, ℕ, subst, arith}
 use Rattle.rdb_turn.specs.Steps.{Sees}
 use Rattle.rdb_turn.proofs.Kept.{sees_word}
 use Rattle.rdb_turn.proofs.steps.see.Goals as goal

@@ -1,4 +1,4 @@
-use Rattle.std.proofs.Common.{rules, ◌≡◌, ◌+◌, ◌-◌, ◌<◌, ℕ, subst, arith}
+use Rattle.std.proofs.Common.{rules, ◌≡◌, ◌+◌, ◌-◌, ℕ, subst, arith}
 use Rattle.rdb_turn.specs.Steps.{Stops}
 use Rattle.rdb_turn.proofs.Kept.{stops_word}
 use Rattle.rdb_turn.proofs.steps.stop.Goals as goal

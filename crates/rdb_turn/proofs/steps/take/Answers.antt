@@ -1,6 +1,5 @@
-use Rattle.std.proofs.Common.{rules, sym, ap, ◌∙◌, ◌∷◌, Some, ◌≡◌}
+use Rattle.std.proofs.Common.{sym, ap, ◌∙◌, ◌∷◌, Some}
 use Rattle.atomic_table.specs.Table.{rest}
-use Rattle.rdb_turn.proofs.Kept.{slot_of}
 use Rattle.rdb_turn.proofs.steps.take.Goals as goal
 
 pub exchange-requires : goal.exchange-requires

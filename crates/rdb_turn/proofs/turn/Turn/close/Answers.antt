@@ -1,4 +1,4 @@
-use Rattle.std.proofs.Common.{rules, ◌≡◌, refl, sym, ◌∙◌, subst, ap, Option, Some}
+use Rattle.std.proofs.Common.{◌≡◌, refl, sym, ◌∙◌, subst, ap, Option}
 use Rattle.std.specs.Option.{IsSome}
 use Rattle.rdb_turn.proofs.Passing.{ends}
 use Rattle.rdb_turn.proofs.turn.Turn.close.Goals as goal

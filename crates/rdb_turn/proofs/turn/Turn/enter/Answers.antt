@@ -1,4 +1,4 @@
-use Rattle.std.proofs.Common.{rules, ◌∙◌, ap}
+use Rattle.std.proofs.Common.{◌∙◌, ap}
 use Rattle.rdb_turn.specs.declared.view.Stand.TheVariants.{Waits}
 use Rattle.rdb_turn.specs.Steps.{Mine}
 use Rattle.rdb_turn.proofs.Passing.{welcomed}

@@ -1,4 +1,4 @@
-use Rattle.std.proofs.Common.{rules, ◌≡◌, [], sym, refl, ◌∙◌, ap, arith}
+use Rattle.std.proofs.Common.{◌≡◌, [], sym, refl, ◌∙◌, ap, arith}
 use Rattle.atomic_table.specs.Table.{rest}
 use Rattle.rdb_turn.specs.declared.view.Stand.TheVariants.{Away}
 use Rattle.rdb_turn.specs.Rule.{is_inside}

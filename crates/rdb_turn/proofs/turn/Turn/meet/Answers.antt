@@ -1,4 +1,4 @@
-use Rattle.std.proofs.Common.{rules, ◌≡◌, ◌+◌, ◌++◌, ◌∷◌, [], sym, ◌∙◌, subst, ap, inl, inr, ⊎_elim, arith}
+use Rattle.std.proofs.Common.{◌≡◌, ◌+◌, ◌++◌, ◌∷◌, [], sym, ◌∙◌, ap, inl, inr, ⊎_elim, arith}
 use Rattle.rdb_turn.specs.Rule.{is_inside}
 use Rattle.rdb_turn.specs.Steps.{Mine, longer}
 use Rattle.rdb_turn.specs.Passes.{history_of, Known}

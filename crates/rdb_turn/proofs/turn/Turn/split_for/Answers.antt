@@ -1,4 +1,4 @@
-use Rattle.std.proofs.Common.{rules, ◌≡◌, List, ℕ, sym, ◌∙◌, ap, subst}
+use Rattle.std.proofs.Common.{◌≡◌, List, ℕ, sym, ◌∙◌, ap, subst}
 use Rattle.rdb_turn.specs.Rule.{OwnsSlot}
 use Rattle.rdb_turn.specs.Steps.{Mine, only}
 use Rattle.rdb_turn.proofs.Parts.{owns_cut}
