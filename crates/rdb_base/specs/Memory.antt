@@ -1,5 +1,5 @@
 -- What contracts see of the files, the sinks and the callback in memory.
-use Rattle.std.specs.Prelude.{◌≡◌, ℕ, ◌+◌, ◌-◌, ◌^◌, ◌==◌, nat_le, if◌then◌else◌, min, List, ◌∷◌, [], ◌++◌, length, refl, map, take, position, slice_get, String, Option, Some, None, Result, Ok, Err, unwrap_or}
+use Rattle.std.specs.Prelude.{◌≡◌, ℕ, Bool, true, false, ◌+◌, ◌-◌, ◌^◌, ◌==◌, nat_le, if◌then◌else◌, min, List, ◌∷◌, [], ◌++◌, length, refl, map, take, position, slice_get, String, Option, Some, None, Result, Ok, Err, unwrap_or}
 use Rattle.std.specs.List.{list_any}
 use Rattle.std.specs.Option.{option_and_then}
 use Rattle.std.specs.Ordering.{nat_cmp}
@@ -21,6 +21,11 @@ pub record Watch : Type 0 where
   pub dead : List ConnId
   pub deaths : ℕ
   pub lives : ℕ
+
+-- the same after an answer
+abbrev pub after_answer : Watch → Bool → Watch
+after_answer w true = record w { deaths = one_more w.deaths }
+after_answer w false = record w { lives = one_more w.lives }
 
 -- entries with the bytes of their names
 abbrev pub named : {X : Type 0} → List (String Global × X) → List (List ℕ × X)

@@ -2,6 +2,7 @@
 
 ghost use Rattle.std.specs.Prelude.{◌≡◌, IfOk};
 
+use crate::identity::ConnId;
 use crate::journal::{Entry, Story};
 use crate::list::NoMemory;
 use crate::operation::{Op, Place, Reply};
@@ -29,6 +30,12 @@ impl Duplicate for u32 {
 
 impl Duplicate for u64 {
     fn duplicate(&self) -> Result<u64, NoMemory> {
+        Ok(*self)
+    }
+}
+
+impl Duplicate for ConnId {
+    fn duplicate(&self) -> Result<ConnId, NoMemory> {
         Ok(*self)
     }
 }

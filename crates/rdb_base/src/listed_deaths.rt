@@ -2,6 +2,7 @@
 
 ghost use Rattle.std.specs.Prelude.{◌≡◌, ℕ, ◌≤◌, List, ◌↔◌, IsTrue, Contains, Option, Some, IfSome};
 ghost use Rattle.std.specs.Bool.{OnTrue, OnFalse};
+ghost use Rattle.rdb_base.specs.Memory.{after_answer};
 ghost use Rattle.rdb_base.specs.Outside.{Rose};
 ghost use Rattle.rdb_base.specs.declared.identity.ConnId.{ConnId};
 
@@ -45,7 +46,15 @@ impl Liveness for ListedDeaths {
 
     ghost dead_ones = { λ watch. Some watch.dead };
 
-    fn dead(&mut self, conn: ConnId) -> bool {
+    fn dead(&mut self, conn: ConnId) -> bool
+        ensures yes { OnTrue result (Rose self.old.deaths self.new.deaths × (self.new.lives ≡ self.old.lives)) }
+        ensures no { OnFalse result (Rose self.old.lives self.new.lives × (self.new.deaths ≡ self.old.deaths)) }
+        ensures deaths_never_fall { self.old.deaths ≤ self.new.deaths }
+        ensures lives_never_fall { self.old.lives ≤ self.new.lives }
+        ensures told { IsTrue result ↔ Contains self.old.dead conn }
+        ensures stays { Some self.new.dead ≡ Some self.old.dead }
+        ensures after { self.new ≡ after_answer self.old result }
+    {
         let is_dead = self.dead.as_slice().contains(&conn);
         if is_dead {
             self.deaths = self.deaths.saturating_add(1);

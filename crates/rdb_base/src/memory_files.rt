@@ -57,7 +57,12 @@ impl MemoryFiles {
     }
 
     /// What the next read answers.
-    fn next_answer(&self, alloc: Global, name: &str, budget: u64) -> Result<Result<Bytes, ReadFault>, NoMemory>
+    fn next_answer(
+        &self,
+        alloc: Global,
+        name: &str,
+        budget: u64,
+    ) -> Result<Result<Bytes, ReadFault>, NoMemory>
         ensures { IfOk result (λ answer. answer ≡ next_read self.now name.now budget) }
     {
         let number = self.reads.saturating_add(1);
@@ -82,7 +87,11 @@ fn is_listed(numbers: &Numbers, number: u64) -> bool
 }
 
 /// What a read of these bytes answers. The cost grows with the bytes.
-pub fn read_bytes(alloc: Global, bytes: &[u8], budget: u64) -> Result<Result<Bytes, ReadFault>, NoMemory>
+pub(crate) fn read_bytes(
+    alloc: Global,
+    bytes: &[u8],
+    budget: u64,
+) -> Result<Result<Bytes, ReadFault>, NoMemory>
     ensures { IfOk result (λ answer. answer ≡ read_of bytes.now budget) }
 {
     if bytes.len() as u64 <= budget {

@@ -29,5 +29,4 @@ pub fn order_is_total()
     ensures same { (x y : Value) → value_order x y ≡ Ordering.Equal → x ≡ y }
     ensures rows_total { IsTotalOrder row_order }
     ensures rows_same { (x y : List Value) → row_order x y ≡ Ordering.Equal → x ≡ y }
-{
-}
+{}

@@ -52,7 +52,12 @@ impl SureFiles {
     }
 
     /// What a read answers.
-    fn answer(&self, alloc: Global, name: &str, budget: u64) -> Result<Result<Bytes, ReadFault>, NoMemory>
+    fn answer(
+        &self,
+        alloc: Global,
+        name: &str,
+        budget: u64,
+    ) -> Result<Result<Bytes, ReadFault>, NoMemory>
         ensures { IfOk result (λ answer. answer ≡ read_of (bytes_of self.now.held name.now) budget) }
     {
         match self.held.get(name) {
@@ -71,9 +76,7 @@ impl Files for SureFiles {
 
     fn read(&mut self, alloc: Global, name: &str, budget: u64) -> Result<Bytes, ReadFault>
         ensures answer { IsReadAnswer (Some (bytes_of self.old.held name.now)) 0 0 budget result }
-        ensures never_falls { 0 ≤ 0 }
         ensures asked { Some self.new.asked ≡ asked_after (Some self.old.asked) name.now result }
-        ensures stays { (other : List ℕ) → Some (bytes_of self.new.held other) ≡ Some (bytes_of self.old.held other) }
         ensures due { IsDue (read_of (bytes_of self.old.held name.now) budget) result }
         ensures held { self.new.held ≡ self.old.held }
     {

@@ -1,6 +1,6 @@
 //! A text of its own memory, which contracts see as its bytes.
 
-ghost use Rattle.std.specs.Prelude.{◌≡◌, IfOk, nat_eq, refl};
+ghost use Rattle.std.specs.Prelude.{◌≡◌, IfOk, nat_eq, refl, string_bytes};
 ghost use Rattle.std.specs.Ordering.{nat_cmp, as_partial_cmp};
 ghost use Rattle.std.specs.Cmp.{nat_eq_equiv, nat_cmp_total, partial_equiv_from_equiv, partial_order_from_agreeing_total};
 ghost use Rattle.std.specs.Cmp.Lexicographic.{pointwise, slice_cmp, lists_equiv, lists_total, texts_ties};
@@ -34,6 +34,13 @@ impl Text {
         Ok(Text {
             words: String::from_str(alloc, words)?,
         })
+    }
+
+    /// The text of these words. It takes no memory.
+    pub fn from_string(words: String) -> Text
+        ensures { result ≡ string_bytes words }
+    {
+        Text { words }
     }
 
     /// The words, lent.

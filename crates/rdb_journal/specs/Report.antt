@@ -10,7 +10,7 @@ use Rattle.rdb_journal.specs.Lines.{entry_lines}
 use Rattle.rdb_journal.specs.Endings.{client_lines}
 
 -- the entry is a commit
-abbrev pub is_commit : Entry → Bool
+unfoldable pub is_commit : Entry → Bool
 is_commit (Commit story commit) = true
 is_commit (Read story) = false
 is_commit (Abort story cause) = false
@@ -18,7 +18,7 @@ is_commit (Handled client by at finished) = false
 is_commit (Closed client) = false
 
 -- the entry ends a transaction that only read
-abbrev pub is_read : Entry → Bool
+unfoldable pub is_read : Entry → Bool
 is_read (Commit story commit) = false
 is_read (Read story) = true
 is_read (Abort story cause) = false
@@ -26,7 +26,7 @@ is_read (Handled client by at finished) = false
 is_read (Closed client) = false
 
 -- the entry is a roll-back
-abbrev pub is_abort : Entry → Bool
+unfoldable pub is_abort : Entry → Bool
 is_abort (Commit story commit) = false
 is_abort (Read story) = false
 is_abort (Abort story cause) = true
@@ -34,7 +34,7 @@ is_abort (Handled client by at finished) = false
 is_abort (Closed client) = false
 
 -- the entry is a dead client that was handled
-abbrev pub is_handled : Entry → Bool
+unfoldable pub is_handled : Entry → Bool
 is_handled (Commit story commit) = false
 is_handled (Read story) = false
 is_handled (Abort story cause) = false

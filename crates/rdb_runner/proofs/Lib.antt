@@ -1,3 +1,11 @@
+pub mod CommandLemmas
 pub mod DecimalLemmas
+pub mod JobLemmas
 pub mod PlainClientLemmas
+pub mod PlainFits
+pub mod PlainRunLemmas
 pub mod ReadingLemmas
+pub mod TellingLemmas
+pub mod CommandLineMeaning
+pub mod CommandLineParts
+pub mod CommandLineReading

@@ -1,3 +1,11 @@
 pub mod Decimal
+pub mod Job
 pub mod PlainClient
+pub mod PlainReport
+pub mod PlainSchedule
+pub mod PlainSchema
+pub mod Promise
 pub mod Reading
+pub mod Telling
+pub mod Command
+pub mod CommandLine

@@ -1,5 +1,5 @@
 -- The simplest client: one transaction that makes rows of one number, and reads rows by their ids.
-use Rattle.std.specs.Prelude.{◌≡◌, ℕ, ◌^◌, ◌<◌, ◌≤◌, pos, List, [], ◌∷◌, ◌++◌, length, codes, decimal, flat_map}
+use Rattle.std.specs.Prelude.{◌≡◌, ℕ, ◌+◌, ◌^◌, ◌<◌, ◌≤◌, pos, List, [], ◌∷◌, ◌++◌, length, codes, decimal, flat_map}
 use Rattle.std.specs.List.{AllByRecursion}
 use Rattle.rdb_base.specs.declared.value.Leaf.TheVariants as leaf
 use Rattle.rdb_base.specs.declared.value.Value.TheVariants as value
@@ -32,3 +32,15 @@ pub record IsClientOf (class text : List ℕ) (steps : List PlainStep) : Type 0 
   pub spelled : text ≡ client_text class steps
   pub few : length steps ≤ 1000
   pub each : AllByRecursion IsStep steps
+
+-- how many rows the steps make
+abbrev pub made_by : List PlainStep → ℕ
+made_by [] = 0
+made_by (New number ∷ steps) = 1 + made_by steps
+made_by (Get id ∷ steps) = made_by steps
+
+-- the operations of the steps in order, where the rows are made with the ids from `next` on
+abbrev pub numbered : ℕ → List PlainStep → List Op
+numbered next [] = []
+numbered next (New number ∷ steps) = operation_of next (New number) ∷ numbered (next + 1) steps
+numbered next (Get id ∷ steps) = operation_of next (Get id) ∷ numbered next steps

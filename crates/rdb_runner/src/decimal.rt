@@ -47,7 +47,7 @@ fn has_leading_zero(digits: &[u8]) -> bool
 }
 
 /// The bytes as a text, where they are UTF-8.
-fn text_of(bytes: &[u8]) -> Option<&str>
+pub fn text_of(bytes: &[u8]) -> Option<&str>
     ensures some { IfSome result (λ text. text.now ≡ bytes.now) }
     ensures none { IfNone result (¬ IsUtf8 bytes.now) }
 {

@@ -1,7 +1,16 @@
 //! The commands of the program, over files and a sink that the caller gives.
 #![tactic(auto)]
 
+pub mod command_line;
 mod decimal;
 mod front;
 mod plain_client;
+mod plain_run;
+mod plain_schedule;
+mod plain_schema;
 pub mod reading;
+pub mod region;
+pub mod replay;
+mod telling;
+#[cfg(test)]
+mod tests;

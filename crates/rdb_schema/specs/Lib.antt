@@ -1,1 +1,5 @@
 pub mod Printed
+pub mod Values
+pub mod Rules
+pub mod Seen
+pub mod Meaning

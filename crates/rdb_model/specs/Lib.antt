@@ -1,0 +1,11 @@
+pub mod Database
+pub mod Index
+pub mod Place
+pub mod Answer
+pub mod Story
+pub mod Journal
+pub mod Touch
+pub mod Serial
+pub mod Fits
+pub mod Others
+pub mod Seek

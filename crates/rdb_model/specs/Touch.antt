@@ -1,0 +1,78 @@
+-- Which rows a reply rests on, and whether a commit touches an operation: backward validation (Kung and Robinson, 1981), on rows.
+use Rattle.std.specs.Prelude.{ℕ, Bool, true, false, ◌&&◌, ◌||◌, not, ◌==◌, List, Option, Some, None}
+use Rattle.std.specs.List.{filter_map, list_any}
+use Rattle.std.specs.Option.{option_map_or}
+use Rattle.std.specs.Ordering.{is_lt, is_gt}
+use Rattle.rdb_base.specs.declared.operation.Op.{Op}
+use Rattle.rdb_base.specs.declared.operation.Op.TheVariants as op
+use Rattle.rdb_base.specs.declared.operation.How.{How}
+use Rattle.rdb_base.specs.declared.operation.How.TheVariants as how
+use Rattle.rdb_base.specs.declared.operation.Reply.{Reply}
+use Rattle.rdb_base.specs.declared.operation.Reply.TheVariants as reply
+use Rattle.rdb_schema.specs.declared.schema.Schema.{Schema}
+use Rattle.rdb_schema.specs.declared.schema.IndexDecl.{IndexDecl}
+use Rattle.rdb_model.specs.Database.{Row, Database, objects_of, row_of}
+use Rattle.rdb_model.specs.Index.{indexes_of, fields_of, key, has_key, pair_order}
+use Rattle.rdb_model.specs.Answer.{is_after, is_before, meets, words_of, starts}
+use Rattle.rdb_model.specs.Story.{after}
+
+-- whether a row has the key of the other in some unique index
+abbrev pub shares_key : List IndexDecl → Row → Row → Bool
+shares_key indexes row other = list_any (λ i. i.unique && has_key i.key (key i.key row) other) indexes
+
+-- whether the pair isn't beyond what was found, going up, and going down
+abbrev pub up_to : Reply → Row × ℕ → Bool
+up_to (reply.At found id) pair = not (is_gt (pair_order pair (found, id)))
+up_to _ pair = true
+
+abbrev pub down_to : Reply → Row × ℕ → Bool
+down_to (reply.At found id) pair = not (is_lt (pair_order pair (found, id)))
+down_to _ pair = true
+
+-- whether a key equals the text; is a prefix of it; or begins with it
+abbrev pub relates : How → List ℕ → List ℕ → Bool
+relates how.Exact text words = starts text words && starts words text
+relates how.Longest text words = starts text words
+relates how.Starting text words = starts words text
+
+-- the class that an operation is of
+abbrev pub class_of : Op → ℕ
+class_of (op.New class row id) = class
+class_of (op.Get class id) = class
+class_of (op.Put class id row) = class
+class_of (op.Del class id) = class
+class_of (op.Find class at wanted) = class
+class_of (op.Seek class at from up) = class
+class_of (op.Area class at rect inside) = class
+class_of (op.Prefix class at text way) = class
+class_of (op.Count class) = class
+
+-- whether the reply to an operation rests on an object of its class
+abbrev pub rests : Schema → Op → Reply → ℕ → Row → Bool
+rests schema (op.New class row made) told id other = shares_key (indexes_of schema class) row other
+rests schema (op.Get class wanted) told id other = id == wanted
+rests schema (op.Put class wanted row) told id other = (id == wanted) || shares_key (indexes_of schema class) row other
+rests schema (op.Del class wanted) told id other = id == wanted
+rests schema (op.Find class at wanted) told id other = has_key (fields_of schema class at) wanted other
+rests schema (op.Seek class at from true) told id other = let pair : Row × ℕ = (key (fields_of schema class at) other, id) in is_after from pair && up_to told pair
+rests schema (op.Seek class at from false) told id other = let pair : Row × ℕ = (key (fields_of schema class at) other, id) in is_before from pair && down_to told pair
+rests schema (op.Area class at rect inside) told id other = meets rect inside (key (fields_of schema class at) other)
+rests schema (op.Prefix class at text way) told id other = option_map_or (relates way text) (words_of (key (fields_of schema class at) other)) false
+rests schema (op.Count class) told id other = true
+
+-- the class and the id of the object that an operation wrote, if it did
+abbrev pub written_by : Op × Reply → Option (ℕ × ℕ)
+written_by (op.New class row id, reply.Made made) = Some (class, made)
+written_by (op.Put class id row, reply.Done) = Some (class, id)
+written_by (op.Del class id, reply.Done) = Some (class, id)
+written_by _ = None
+
+-- whether the reply to an operation rests on that object as a database has it
+abbrev pub rests_on : Schema → Database → Op × Reply → ℕ × ℕ → Bool
+rests_on schema db d object =
+    (object.0 == class_of d.0) && option_map_or (rests schema d.0 d.1 object.1) (row_of (objects_of db object.0) object.1) false
+
+-- whether operations that are done on a database write an object on which the reply to another operation rests, as it was before them or as it is after
+abbrev pub touches : Schema → Database → List (Op × Reply) → Op × Reply → Bool
+touches schema before done d =
+    list_any (λ object. rests_on schema before d object || rests_on schema (after schema before done) d object) (filter_map written_by done)

@@ -1,0 +1,11 @@
+//! The plain database and the law of journals: what every answer of the product is measured by.
+#![tactic(auto)]
+
+mod clash;
+pub mod db;
+mod declared;
+mod keys;
+pub mod legality;
+mod lookups;
+pub mod objects;
+mod seek;

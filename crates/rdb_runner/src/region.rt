@@ -1,0 +1,152 @@
+//! The top call: the words of a command line in, a status out. It touches the caller's files and sink alone.
+
+ghost use Rattle.std.specs.Prelude.{◌≡◌, ◌≢◌, ◌⊎◌, ◌<◌, ◌≤◌, ℕ, List, [], ◌∷◌, map, Contains, string_bytes, IfOk};
+ghost use Rattle.rdb_runner.specs.Command.{not_built_line, IsNoCommandLine, WordsEnd, CommandEnds, AsksFor, AsksForOther, AsksInOrder, IsCutShort, SeesNothing, usage_line};
+ghost use Rattle.rdb_runner.specs.CommandLine.{Word, IsCommandLine, command_of, IsWithinLimits};
+ghost use Rattle.rdb_runner.specs.Job.{files_of};
+ghost use Rattle.rdb_runner.specs.Promise.{JobEnds, Shows, IsDone, IsUnreadable, IsNotBuilt, HasTooLong, ArePlain, names_of};
+ghost use Rattle.rdb_runner.specs.Reading.{sight_of};
+ghost use Rattle.rdb_runner.specs.Telling.{Tells, Writes, IsSilent, ink_of};
+
+use crate::command_line::{self, CommandLine, Settings};
+use crate::replay::{Job, replay};
+use crate::telling::{NO_MEMORY, tell};
+use rdb_base::files::Files;
+use rdb_base::gate::Gate;
+use rdb_base::list::{List, NoMemory};
+use rdb_base::sink::Sink;
+use rdb_base::text::Text;
+use std::alloc::Global;
+
+/// The job of these settings and names, with one client.
+fn job_of(alloc: Global, settings: Settings, schema: &str, schedule: &str, client: &str) -> Result<Job, NoMemory>
+    ensures { IfOk result (λ job. (files_of job ≡ names_of schema.now schedule.now client.now) × (job.pages ≡ settings.pages)) }
+{
+    let mut clients = List::new(alloc);
+    clients.push(Text::of(alloc, client)?)?;
+    Ok(Job {
+        manager: settings.manager,
+        pages: settings.pages,
+        schema: Text::of(alloc, schema)?,
+        schedule: Text::of(alloc, schedule)?,
+        clients,
+    })
+}
+
+/// Replays the job of these settings and names.
+fn replay_job<F: Files, K: Sink>(
+    alloc: Global,
+    settings: Settings,
+    schema: &str,
+    schedule: &str,
+    client: &str,
+    files: &mut F,
+    out: &mut K,
+) -> u8
+    requires pages { (1 ≤ settings.pages) × (settings.pages ≤ 16384) }
+    ensures { JobEnds (names_of schema.now schedule.now client.now) (sight_of F.told F.asked F.faults files.old files.new) (ink_of K.written K.faults out.old out.new) result }
+{
+    match job_of(alloc, settings, schema, schedule, client) {
+        Ok(job) => replay(alloc, &job, files, out),
+        Err(_) => NO_MEMORY,
+    }
+}
+
+/// Tells that a command isn't built.
+fn not_built<K: Sink>(out: &mut K, line: &CommandLine<'_>) -> u8
+    ensures { Tells (ink_of K.written K.faults out.old out.new) 10 (not_built_line (command_of line.now)) result }
+{
+    match line {
+        CommandLine::Replay { .. } => tell(out, 10, b"regiondb: not built replay\n"),
+        CommandLine::Run { .. } => tell(out, 10, b"regiondb: not built run\n"),
+        CommandLine::Audit { .. } => tell(out, 10, b"regiondb: not built audit\n"),
+        CommandLine::Check { .. } => tell(out, 10, b"regiondb: not built check\n"),
+        CommandLine::Job { .. } => tell(out, 10, b"regiondb: not built job\n"),
+    }
+}
+
+/// What a command line ends with.
+fn end_command<F: Files, K: Sink>(
+    alloc: Global,
+    line: &CommandLine<'_>,
+    files: &mut F,
+    out: &mut K,
+) -> u8
+    requires { IsWithinLimits (command_of line.now) }
+    ensures { CommandEnds (command_of line.now) (sight_of F.told F.asked F.faults files.old files.new) (ink_of K.written K.faults out.old out.new) result }
+{
+    if let CommandLine::Replay {
+        settings,
+        schema,
+        schedule,
+        clients,
+    } = line
+    {
+        if let [client] = clients.as_slice() {
+            return replay_job(alloc, *settings, schema, schedule, client, files, out);
+        }
+    }
+    not_built(out, line)
+}
+
+/// What words end with.
+fn end_words<F: Files, K: Sink>(
+    alloc: Global,
+    words: &[String],
+    files: &mut F,
+    out: &mut K,
+) -> u8
+    ensures ends { WordsEnd (map string_bytes words.now) (sight_of F.told F.asked F.faults files.old files.new) (ink_of K.written K.faults out.old out.new) result }
+    ensures asked { AsksInOrder (map string_bytes words.now) (sight_of F.told F.asked F.faults files.old files.new) }
+{
+    match command_line::read(words) {
+        Some(line) => end_command(alloc, &line, files, out),
+        None => tell(out, 2, b"regiondb: usage\n"),
+    }
+}
+
+/// Does what the words of a command line ask for, over these files and this sink, and answers the status: 0 where all is
+/// done, 2 where the words are no command line, 3 where a file can't be read, 7 where a write failed, 8 where memory was
+/// wanting, and 10 where the command or a file's form isn't built yet. It always returns. The cost grows with the files.
+pub fn region_main<F: Files, K: Sink, G: Gate + Sync>(
+    alloc: Global,
+    words: &[String],
+    files: &mut F,
+    out: &mut K,
+    _gate: &G,
+) -> u8
+    ensures statuses { Contains (0 ∷ 2 ∷ 3 ∷ 7 ∷ 8 ∷ 10 ∷ []) result }
+
+    // 0: the text is the report of the job that the words ask for, and all of it was written.
+    ensures done { result ≡ 0 → (names : List Word) × AsksFor (map string_bytes words.now) names
+        × Shows (ink_of K.written K.faults out.old out.new) (IsDone names (sight_of F.told F.asked F.faults files.old files.new)) }
+
+    // 2: exactly where the words are no command line. No file is read.
+    ensures usage { result ≡ 2 → IsNoCommandLine (map string_bytes words.now) × Writes (ink_of K.written K.faults out.old out.new) usage_line
+        × SeesNothing (sight_of F.told F.asked F.faults files.old files.new) }
+    ensures no_command_line { IsNoCommandLine (map string_bytes words.now) → Contains (2 ∷ 7 ∷ []) result }
+
+    // 3: exactly where a read failed or a file is too long.
+    ensures unreadable { result ≡ 3 → (names : List Word) × AsksFor (map string_bytes words.now) names
+        × Shows (ink_of K.written K.faults out.old out.new) (IsUnreadable names (sight_of F.told F.asked F.faults files.old files.new)) }
+    ensures failed_read { F.faults files.old < F.faults files.new → Contains (3 ∷ 7 ∷ 8 ∷ []) result }
+    ensures too_long { (names : List Word) → AsksFor (map string_bytes words.now) names
+        → HasTooLong names (sight_of F.told F.asked F.faults files.old files.new) → Contains (3 ∷ 7 ∷ 8 ∷ []) result }
+
+    // 10: a command that isn't built, or files that aren't all of the simplest form, and never for what is built.
+    ensures not_built { result ≡ 10 → Shows (ink_of K.written K.faults out.old out.new) (AsksForOther (map string_bytes words.now))
+        ⊎ ((names : List Word) × AsksFor (map string_bytes words.now) names
+        × Shows (ink_of K.written K.faults out.old out.new) (IsNotBuilt names (sight_of F.told F.asked F.faults files.old files.new))) }
+    ensures plain { (names : List Word) → AsksFor (map string_bytes words.now) names
+        → ArePlain names (sight_of F.told F.asked F.faults files.old files.new) → result ≢ 10 }
+
+    // 7: only where a write failed, and a prefix of what was due is written. 8: nothing is written.
+    ensures interrupted { result ≡ 7 → IsCutShort (map string_bytes words.now) (sight_of F.told F.asked F.faults files.old files.new)
+        (ink_of K.written K.faults out.old out.new) }
+    ensures memory { result ≡ 8 → IsSilent (ink_of K.written K.faults out.old out.new) }
+
+    // The files are asked in the words' order, none twice.
+    ensures asked { AsksInOrder (map string_bytes words.now) (sight_of F.told F.asked F.faults files.old files.new) }
+{
+    end_words(alloc, words, files, out)
+}

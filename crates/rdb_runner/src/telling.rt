@@ -1,0 +1,66 @@
+//! Writes what is due to the caller's sink, and answers the status.
+
+ghost use Rattle.std.specs.Prelude.{◌≡◌, ◌++◌, ◌⊎◌, codes, IfOk, OnOk, OnErr, string_bytes};
+ghost use Rattle.std.specs.List.{concat};
+ghost use Rattle.rdb_runner.specs.Telling.{Tells, Writes, IsCutOff, IsSilent, ink_of};
+
+use rdb_base::list::{List, NoMemory};
+use rdb_base::sink::{Sink, WriteFault};
+use rdb_base::text::Text;
+use std::alloc::Global;
+
+/// The status of a command whose output was cut off by a failed write.
+pub const CUT_OFF: u8 = 7;
+
+/// The status of a command for which memory was wanting.
+pub const NO_MEMORY: u8 = 8;
+
+/// Writes one piece, and answers this status or that the write failed.
+pub fn tell<K: Sink>(out: &mut K, status: u8, piece: &[u8]) -> u8
+    ensures { Tells (ink_of K.written K.faults out.old out.new) status piece.now result }
+{
+    match out.write(piece) {
+        Ok(()) => status,
+        Err(_) => CUT_OFF,
+    }
+}
+
+/// Writes a line as one piece.
+fn write_line<K: Sink>(out: &mut K, line: &Text) -> Result<(), WriteFault>
+    ensures ok { OnOk result (Writes (ink_of K.written K.faults out.old out.new) line.now) }
+    ensures err { OnErr result (IsCutOff (ink_of K.written K.faults out.old out.new) line.now) }
+{
+    out.write(line.as_str().as_bytes())
+}
+
+/// Writes the lines, each one piece, and answers 0 or that a write failed. The cost grows with the lines.
+pub fn tell_lines<K: Sink>(out: &mut K, lines: &List<Text>) -> u8
+    ensures { Tells (ink_of K.written K.faults out.old out.new) 0 (concat lines.now) result }
+{
+    for line in lines.as_slice() {
+        match write_line(out, line) {
+            Ok(()) => {}
+            Err(_) => return CUT_OFF,
+        }
+    }
+    0
+}
+
+/// A line of these words and this name.
+fn line_of(alloc: Global, words: &str, name: &str) -> Result<String, NoMemory>
+    ensures { IfOk result (λ line. string_bytes line ≡ words.now ++ name.now ++ codes "\n") }
+{
+    format!(in alloc; "{words}{name}\n")
+}
+
+/// Writes a line of these words and this name, and answers this status, that the write failed, or that memory was
+/// wanting and nothing was written.
+pub fn tell_name<K: Sink>(alloc: Global, out: &mut K, status: u8, words: &str, name: &str) -> u8
+    ensures { Tells (ink_of K.written K.faults out.old out.new) status (words.now ++ name.now ++ codes "\n") result
+        ⊎ ((result ≡ 8) × IsSilent (ink_of K.written K.faults out.old out.new)) }
+{
+    match line_of(alloc, words, name) {
+        Ok(line) => tell(out, status, line.as_bytes()),
+        Err(_) => NO_MEMORY,
+    }
+}

@@ -1,0 +1,5 @@
+pub mod Appends
+pub mod Escapes
+pub mod Scan
+pub mod Passing
+pub mod Building

@@ -1,0 +1,7 @@
+use Rattle.std.proofs.Common.{◌≡◌, ◌≤◌, take}
+use Rattle.std.specs.Prelude.{count_by}
+use Rattle.rdb_schema.specs.Rules.{is_index_name}
+use Rattle.rdb_schema.proofs.rules.index_names.Given as goal
+
+abbrev pub invariant-loop-part : goal.invariant-loop-part
+invariant-loop-part l = (l.count ≡ count_by is_index_name (take l.part-index l.front)) × (l.count ≤ l.part-index)

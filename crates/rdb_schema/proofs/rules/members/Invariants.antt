@@ -1,0 +1,7 @@
+use Rattle.std.proofs.Common.{◌≡◌, ◌≤◌, take}
+use Rattle.std.specs.Prelude.{count_by}
+use Rattle.rdb_schema.specs.Rules.{is_member}
+use Rattle.rdb_schema.proofs.rules.members.Given as goal
+
+abbrev pub invariant-loop-part : goal.invariant-loop-part
+invariant-loop-part l = (l.count ≡ count_by is_member (take l.part-index l.front)) × (l.count ≤ l.part-index)

@@ -1,0 +1,49 @@
+//! The program: the words of the command line, the files of the machine and standard output.
+//! This is the trusted edge: its adapters tell no content.
+#![tactic(auto)]
+
+use disk::Disk;
+use output::Output;
+use rdb_base::gate::NoGate;
+use rdb_runner::region::region_main;
+use std::env;
+use std::io;
+use std::process::ExitCode;
+
+mod disk;
+mod output;
+
+/// The status of words that are no command line. A word that is no UTF-8 is none.
+const NO_COMMAND_LINE: u8 = 2;
+
+/// The status where memory was wanting before the words were read.
+const NO_MEMORY: u8 = 8;
+
+/// The words behind the program's name.
+fn words(rt: &HostRuntime) -> io::Result<Vec<String>> {
+    let mut words = Vec::new(rt.alloc());
+    for word in env::args(rt)?.skip(1) {
+        words.push(word)?;
+    }
+    Ok(words)
+}
+
+fn main(rt: HostRuntime) -> ExitCode {
+    let mut output = Output::new(io::writer(&rt));
+    let words = match words(&rt) {
+        Ok(words) => words,
+        Err(error) if error.kind() == io::ErrorKind::OutOfMemory => {
+            return ExitCode::from(NO_MEMORY);
+        }
+        Err(_) => return ExitCode::from(output.usage(NO_COMMAND_LINE)),
+    };
+    let mut disk = Disk::new(&rt);
+    let status = region_main(
+        rt.alloc(),
+        words.as_slice(),
+        &mut disk,
+        &mut output,
+        &NoGate,
+    );
+    ExitCode::from(status)
+}
