@@ -8,13 +8,9 @@ use crate::steps::{SERVING, TICKET, look};
 use rdb_base::chronicle::Chronicle;
 use std::hint::spin_loop;
 use std::sync::Wait;
-use std::thread::yield_now;
 
-/// Looks that only spin.
+/// Looks after which a thread sleeps.
 const SPINS: u32 = 100;
-
-/// Looks after which a thread sleeps; between the two it lets others run.
-const LOOKS: u32 = 120;
 
 /// Waits until a ticket is served, and takes the slot.
 pub(crate) fn wait_for<T: Chronicle, R: Wait>(
@@ -40,14 +36,12 @@ pub(crate) fn wait_for<T: Chronicle, R: Wait>(
     unreachable!()
 }
 
-/// Spins, lets others run, or sleeps until another ticket than `serving` is served.
+/// Spins, or sleeps until another ticket than `serving` is served. A thread that only lets others run would wait out their time slices.
 fn rest<T: Chronicle, R: Wait>(rt: &R, board: &Board<T>, serving: u64, looks: u32)
     requires { board.now.table_id.words ≡ 19 }
 {
     if looks < SPINS {
         spin_loop();
-    } else if looks < LOOKS {
-        yield_now();
     } else {
         board.park(rt, SERVING, (serving & 0xffff_ffff) as u32);
     }
