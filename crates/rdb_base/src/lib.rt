@@ -1,6 +1,7 @@
 //! Values, ids, the journal's types and the traits of the outside, on which all other crates stand.
 #![tactic(auto)]
 
+pub mod chronicle;
 pub mod duplicate;
 pub mod files;
 pub mod folder;

@@ -1,0 +1,5 @@
+pub mod Beginnings
+pub mod Parts
+pub mod Sums
+pub mod Kept
+pub mod Passing

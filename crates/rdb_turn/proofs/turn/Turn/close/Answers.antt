@@ -1,0 +1,22 @@
+use Rattle.std.proofs.Common.{◌≡◌, refl, sym, ◌∙◌, subst, ap, Option}
+use Rattle.std.specs.Option.{IsSome}
+use Rattle.rdb_turn.proofs.Passing.{ends}
+use Rattle.rdb_turn.proofs.turn.Turn.close.Goals as goal
+use Rattle.rdb_turn.proofs.turn.Turn.close.Goals.{Else-ticket-serving}
+
+pub unwrap-requires : goal.unwrap-requires
+unwrap-requires g c =
+    let end = ends g.T.Chronicle _ _ _ _ _ _ _ _ _ _ c.close_with-closed.ensures.values.2 c.word-ticket.ensures c.word-serving.ensures c.if-ticket-serving.false c.take-value.ensures.value c.requires.seen_last in
+    subst (λ (o : Option g.row.T.Denot). IsSome o) (sym end.1) refl
+
+pub returns-clause-base : goal.returns-clause-base
+returns-clause-base g c =
+    let end = ends g.T.Chronicle _ _ _ _ _ _ _ _ _ _ c.close_with-closed.ensures.values.2 c.word-ticket.ensures c.word-serving.ensures c.if-ticket-serving.false c.take-value.ensures.value c.requires.seen_last in
+    let same : c.unwrap.result ≡ end.0 = cc (end.1, c.unwrap.ensures) in
+    ap g.T.Chronicle.base same ∙ end.2
+
+pub returns-clause-later : goal.returns-clause-later
+returns-clause-later g c =
+    let end = ends g.T.Chronicle _ _ _ _ _ _ _ _ _ _ c.close_with-closed.ensures.values.2 c.word-ticket.ensures c.word-serving.ensures c.if-ticket-serving.false c.take-value.ensures.value c.requires.seen_last in
+    let same : end.0 ≡ c.unwrap.result = cc (end.1, c.unwrap.ensures) in
+    let h = end.3 in (h.0, h.1 ∙ ap g.T.Chronicle.history same)

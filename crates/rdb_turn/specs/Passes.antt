@@ -1,0 +1,75 @@
+-- What contracts say of a pass and its turn.
+use Rattle.std.specs.Prelude.{◌≡◌, ℕ, ◌%◌, ◌^◌, ◌<◌, ◌≤◌, List, [], ◌∷◌, Option, None, Bool, true, false}
+use Rattle.rdb_base.specs.declared.chronicle.Chronicle.{Ghosts}
+use Rattle.rdb_turn.specs.declared.pass.Pass.{Pass}
+use Rattle.rdb_turn.specs.declared.turn.Turn.{Turn}
+use Rattle.rdb_turn.specs.declared.view.Stand.{Stand}
+use Rattle.rdb_turn.specs.declared.view.Stand.TheVariants.{Away, Waits, Inside}
+use Rattle.rdb_turn.specs.Rule.{is_inside, OwnsSlot, parts_below}
+
+-- what a pass holds of the slot, and its last ticket, fit where it stands: between two calls no pass waits
+abbrev pub Fits : {T : Type 0} → ℕ → List (ℕ × Option T) → Stand → Type 0
+Fits ticket carried Away = carried ≡ []
+Fits ticket carried (Waits n) = ⊥
+Fits ticket carried (Inside n) = (carried ≡ (0, None) ∷ []) × (n % 2 ^ 64 ≡ ticket)
+
+-- What contracts see of a pass: the value that it has seen last, alone in a list; the slots whose parts it owns, each with the value in which its owner left it last;
+-- the slots that it has seen condemned; the clients that it has seen stopped; whose it is, with 0 for nobody's; whether it has the turn; and how many turns it has entered.
+pub record Known (T : Type 0) : Type 0 where
+  pub seen : List T
+  pub owned : List (ℕ × T)
+  pub gone : List ℕ
+  pub stopped : List ℕ
+  pub client : ℕ
+  pub has_turn : Bool
+  pub turns : ℕ
+
+module _ {T : Type 0} where
+  abbrev pub known : Pass T → Known T
+  known pass = record {
+    seen = pass.place.me.0.seen;
+    owned = pass.place.me.0.owned;
+    gone = pass.place.me.0.gone;
+    stopped = pass.place.me.0.stopped;
+    client = pass.client;
+    has_turn = is_inside pass.place.me.0.stand;
+    turns = pass.turns;
+  }
+
+  -- the pass owns the part of the slot
+  abbrev pub IsOwner : Pass T → ℕ → Type 0
+  IsOwner pass slot = OwnsSlot pass.place.me.0.owned slot
+
+-- the history of the value that was seen last
+abbrev pub history_of : {T E : Type 0} → (T → List E) → List T → List E
+history_of history [] = []
+history_of history (x ∷ xs) = history x
+
+module _ {T E B P : Type 0} (c : Ghosts T E B P) where
+  -- the history that the pass has seen
+  abbrev pub seen : Pass T → List E
+  seen pass = history_of c.history pass.place.me.0.seen
+
+  -- what is known of the pass that is made with the turn
+  abbrev pub founder : T → Known T
+  founder value = record { seen = value ∷ []; owned = parts_below 32 value; gone = c.gone value; stopped = []; client = 0; has_turn = false; turns = 0 }
+
+  -- the base of the value that the turn was made with
+  abbrev pub base_of : Turn T E B P → B
+  base_of turn = c.base turn.table.shared.key.made.value
+
+  -- it is a pass of this turn
+  pub record IsPassOf (turn : Turn T E B P) (pass : Pass T) : Type 0 where
+    pub table : pass.place.table_id ≡ turn.table.shared.table_id
+    pub latest : T
+    pub seen_last : pass.place.me.0.seen ≡ latest ∷ []
+    pub based : c.base latest ≡ base_of turn
+    pub boarded : pass.place.me.0.boarded ≡ turn.boarded
+    pub some_share : 0 < pass.shares
+    pub shares : pass.shares ≤ pass.place.me.0.shares
+    pub fits : Fits pass.ticket pass.place.me.1 pass.place.me.0.stand
+    pub inside : is_inside pass.place.me.0.stand ≡ true → pass.place.me.0.gone ≡ c.gone latest
+
+-- whether the turn was made with a board
+abbrev pub is_boarded : {T E B P : Type 0} → Turn T E B P → Bool
+is_boarded turn = turn.boarded

@@ -1,0 +1,97 @@
+//! What each kind of step tells the one who steps.
+ghost use Rattle.std.specs.Prelude.{◌-◌};
+ghost use Rattle.rdb_turn.specs.Steps.{Draws, Looks, Raises, Releases, Fronts, Settles, Marks, Stops, Sees, half_kept, half_given, part_kept, part_given, both_views, spent_view};
+
+use crate::view::View;
+use atomic_table::{Join, Play, Split};
+use rdb_base::chronicle::Chronicle;
+
+/// Draws a ticket.
+pub(crate) struct Draw;
+
+impl<T> Play<Option<T>, View<T>> for Draw {
+    ghost then = { λ _ me found after. Draws me found after };
+}
+
+/// Looks who is served, and takes the slot where it is the one who looks.
+pub(crate) struct Look;
+
+impl<T: Chronicle> Play<Option<T>, View<T>> for Look {
+    ghost then = { λ _ me found after. Looks T.Chronicle me found after };
+}
+
+/// Publishes the length of the value that is given back.
+pub(crate) struct Raise;
+
+impl<T: Chronicle> Play<Option<T>, View<T>> for Raise {
+    ghost then = { λ _ me _ after. Raises T.Chronicle me after };
+}
+
+/// Gives the slot back and lets the next one enter.
+pub(crate) struct Release;
+
+impl<T> Play<Option<T>, View<T>> for Release {
+    ghost then = { λ _ me _ after. Releases me after };
+}
+
+/// Looks at the published length.
+pub(crate) struct Front;
+
+impl<T: Chronicle> Play<Option<T>, View<T>> for Front {
+    ghost then = { λ _ me found after. Fronts T.Chronicle me found after };
+}
+
+/// Keeps the longer of two values that were seen.
+pub(crate) struct Settle;
+
+impl<T: Chronicle> Play<Option<T>, View<T>> for Settle {
+    ghost then = { λ _ me _ after. Settles T.Chronicle me after };
+}
+
+/// Notes the slot whose part is cut off next, which is the operand.
+pub(crate) struct Mark;
+
+impl<T> Play<Option<T>, View<T>> for Mark {
+    ghost then = { λ step me _ after. Marks step.first me after };
+}
+
+/// Writes the word of a client.
+pub(crate) struct Stop;
+
+impl<T> Play<Option<T>, View<T>> for Stop {
+    ghost then = { λ step me _ after. Stops (step.word - 2) me after };
+}
+
+/// Looks at the word of a client.
+pub(crate) struct See;
+
+impl<T> Play<Option<T>, View<T>> for See {
+    ghost then = { λ step me found after. Sees (step.word - 2) me found after };
+}
+
+/// One pass becomes two.
+pub(crate) struct Halves;
+
+impl<T> Split<View<T>> for Halves {
+    ghost left = { half_kept };
+
+    ghost right = { half_given };
+}
+
+/// One pass becomes two, of which the second owns the part that was noted.
+pub(crate) struct Parts;
+
+impl<T> Split<View<T>> for Parts {
+    ghost left = { part_kept };
+
+    ghost right = { part_given };
+}
+
+/// Two passes become one.
+pub(crate) struct Both;
+
+impl<T> Join<View<T>> for Both {
+    ghost both = { both_views };
+
+    ghost spent = { spent_view };
+}
