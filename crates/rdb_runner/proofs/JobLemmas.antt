@@ -18,12 +18,12 @@ JobTold names sight ink result = ((status : ℕ) × (text : List ℕ) × JobOwes
 
 -- the five ways in which a job ends
 pub by_job : {P : Type 0} → (names : List (List ℕ)) (sight : Sight) (ink : Ink) (result : ℕ) → JobTold names sight ink result
-  → ((text : List ℕ) → result ≡ 0 → IsDone names sight text → Writes ink text → P)
-  → ((text : List ℕ) → result ≡ 3 → IsUnreadable names sight text → Writes ink text → P)
-  → ((text : List ℕ) → result ≡ 10 → IsNotBuilt names sight text → Writes ink text → P)
-  → (result ≡ 7 → IsInterrupted names sight ink → P)
-  → (result ≡ 8 → IsSilent ink → P)
-  → P
+    → ((text : List ℕ) → result ≡ 0 → IsDone names sight text → Writes ink text → P)
+    → ((text : List ℕ) → result ≡ 3 → IsUnreadable names sight text → Writes ink text → P)
+    → ((text : List ℕ) → result ≡ 10 → IsNotBuilt names sight text → Writes ink text → P)
+    → (result ≡ 7 → IsInterrupted names sight ink → P)
+    → (result ≡ 8 → IsSilent ink → P)
+    → P
 by_job names sight ink result (inr none) done unreadable other cut silent = silent none.0 none.1
 by_job names sight ink result (inl (status, text, owes, inr off)) done unreadable other cut silent = cut off.0 (status, text, owes, off.1)
 by_job names sight ink result (inl (status, text, inl first, inl whole)) done unreadable other cut silent = done text (whole.0 ∙ first.0) first.1 whole.1
@@ -65,10 +65,10 @@ plain_built names sight text p (schema, schedule, client, place, name, read, fir
     let two = bytes_told sight.told p.schedule_name schedule p.schedule_text all.1.0 p.schedule_told in
     let three = bytes_told sight.told p.client_name client p.client_text all.1.1.0 p.client_told in
     first_is_plain schema schedule client place p.database p.class p.field p.steps
-      (subst (λ (t : List ℕ). IsSchemaText t p.database p.class p.field) (sym one) p.schema_plain)
-      (ap is_plain_schedule two ∙ p.schedule_plain)
-      (subst (λ (t : List ℕ). IsClientOf p.class t p.steps) (sym three) p.client_plain)
-      first
+    (subst (λ (t : List ℕ). IsSchemaText t p.database p.class p.field) (sym one) p.schema_plain)
+    (ap is_plain_schedule two ∙ p.schedule_plain)
+    (subst (λ (t : List ℕ). IsClientOf p.class t p.steps) (sym three) p.client_plain)
+    first
 
 module _ (names : List (List ℕ)) (sight : Sight) (ink : Ink) (result : ℕ) (told : JobTold names sight ink result) where
   pub job_done : result ≡ 0 → Shows ink (IsDone names sight)
@@ -91,14 +91,14 @@ module _ (names : List (List ℕ)) (sight : Sight) (ink : Ink) (result : ℕ) (t
 
   pub job_failed_read : sight.faults < sight.faults_then → Contains (3 ∷ 7 ∷ 8 ∷ []) result
   job_failed_read rose = by_job names sight ink result told
-    (λ text r h w. let same = h.3.2 in absurd (omega arith)) (λ text r h w. (0, lit< tt, sym r)) (λ text r h w. let same = h.5.2 in absurd (omega arith))
-    (λ r h. (1, lit< tt, sym r)) (λ r h. (2, lit< tt, sym r))
+      (λ text r h w. let same = h.3.2 in absurd (omega arith)) (λ text r h w. (0, lit< tt, sym r)) (λ text r h w. let same = h.5.2 in absurd (omega arith))
+      (λ r h. (1, lit< tt, sym r)) (λ r h. (2, lit< tt, sym r))
 
   pub job_too_long : HasTooLong names sight → Contains (3 ∷ 7 ∷ 8 ∷ []) result
   job_too_long (place, name, there, at, is, long) = by_job names sight ink result told
-    (λ text r h w. let short = told_within sight.told names _ place name there h.3.0 at is in absurd (omega arith)) (λ text r h w. (0, lit< tt, sym r))
-    (λ text r h w. let short = told_within sight.told names _ place name there h.5.0 at is in absurd (omega arith))
-    (λ r h. (1, lit< tt, sym r)) (λ r h. (2, lit< tt, sym r))
+      (λ text r h w. let short = told_within sight.told names _ place name there h.3.0 at is in absurd (omega arith)) (λ text r h w. (0, lit< tt, sym r))
+      (λ text r h w. let short = told_within sight.told names _ place name there h.5.0 at is in absurd (omega arith))
+      (λ r h. (1, lit< tt, sym r)) (λ r h. (2, lit< tt, sym r))
 
   pub job_plain : ArePlain names sight → result ≡ 10 → ⊥
   job_plain p e = let shown = job_not_built e in plain_built names sight shown.0 p shown.1
@@ -111,10 +111,10 @@ single (y ∷ z ∷ xs) x one at = absurd (omega arith)
 
 -- a text that isn't of the simplest form is told
 pub other_told : (names : List (List ℕ)) (sight : Sight) (ink : Ink) (result place : ℕ) (name : List ℕ)
-  → (schema schedule client : List ℕ) × AllRead sight names (names_of schema schedule client) × IsFirstOther schema schedule client place
-  → slice_get names place ≡ Some name
-  → Tells ink 10 (codes "regiondb: not built " ++ name ++ codes "\n") result ⊎ ((result ≡ 8) × IsSilent ink)
-  → JobTold names sight ink result
+    → (schema schedule client : List ℕ) × AllRead sight names (names_of schema schedule client) × IsFirstOther schema schedule client place
+    → slice_get names place ≡ Some name
+    → Tells ink 10 (codes "regiondb: not built " ++ name ++ codes "\n") result ⊎ ((result ≡ 8) × IsSilent ink)
+    → JobTold names sight ink result
 other_told names sight ink result place name (schema, schedule, client, read, first) at (inl tells) =
     inl (10, (codes "regiondb: not built " ++ name ++ codes "\n"), inr (inr (refl, (schema, schedule, client, place, name, read, first, at, refl))), tells)
 other_told names sight ink result place name work at (inr silent) = inr silent

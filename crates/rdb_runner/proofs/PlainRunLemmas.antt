@@ -127,7 +127,7 @@ none_wrong d c f (New number ∷ steps) next first db mid ((o, told) ∷ done) m
     let others : map (λ (x : Op × Reply). x.0) done ≡ numbered (next + 1) steps = cc in
     subst (λ (p : Op). wrong_reply (schema_of d c f) db made first ((p, told) ∷ done) ≡ None) (sym is)
     (by_reply told (subst (λ (p : Op). run (schema_of d c f) db ((p, told) ∷ done) ≡ Some mid) is r)
-      (λ m at ran. none_wrong d c f steps (next + 1) (first + 1) (answer (schema_of d c f) db (operation_of next (New number))).1 mid done (made ++ (0, m) ∷ []) others ran (below_more made next m at h)))
+    (λ m at ran. none_wrong d c f steps (next + 1) (first + 1) (answer (schema_of d c f) db (operation_of next (New number))).1 mid done (made ++ (0, m) ∷ []) others ran (below_more made next m at h)))
   where
     by_reply : (told : Reply) → run (schema_of d c f) db ((operation_of next (New number), told) ∷ done) ≡ Some mid → ((m : ℕ) → m ≡ next → run (schema_of d c f) (answer (schema_of d c f) db (operation_of next (New number))).1 done ≡ Some mid → wrong_reply (schema_of d c f) (answer (schema_of d c f) db (operation_of next (New number))).1 (made ++ (0, m) ∷ []) (first + 1) done ≡ None) → wrong_reply (schema_of d c f) db made first ((operation_of next (New number), told) ∷ done) ≡ None
     by_reply (reply.Made m) r rest =
@@ -152,7 +152,7 @@ none_wrong d c f (Get id ∷ steps) next first db mid ((o, told) ∷ done) made 
     let t = taken (same_reply found told) (run (schema_of d c f) db done) mid ran in
     subst (λ (p : Op). wrong_reply (schema_of d c f) db made first ((p, told) ∷ done) ≡ None) (sym is)
     (ap (λ (b : Bool). cond (b && true) (wrong_reply (schema_of d c f) db (made ++ []) (first + 1) done) (Some first)) t.0
-     ∙ none_wrong d c f steps next (first + 1) db mid done (made ++ []) others t.1 (below_same made next h))
+    ∙ none_wrong d c f steps next (first + 1) db mid done (made ++ []) others t.1 (below_same made next h))
 
 some_of : (o : Option Database) → IsSome o → (mid : Database) × (o ≡ Some mid)
 some_of None h = let no : false ≡ true = h in absurd (false≢true no)
@@ -182,13 +182,13 @@ map_more_of (x ∷ done) d = ap (λ (os : List Op). x.0 ∷ os) (map_more_of don
 
 -- one step more
 pub answered_more : IsTotalOrder row_order → (schema : Schema) (steps : List PlainStep) (index : ℕ) (done : List (Op × Reply)) (db : Database) (next : ℕ) (one : PlainStep) → IsPlain schema → index < length steps → one ≡ get_or steps index one → Answered schema steps index done db next
-  → Answered schema steps (index + 1) (done ++ (operation_of next one, (answer schema db (operation_of next one)).0) ∷ []) (answer schema db (operation_of next one)).1 (next + made_by (one ∷ []))
+    → Answered schema steps (index + 1) (done ++ (operation_of next one, (answer schema db (operation_of next one)).0) ∷ []) (answer schema db (operation_of next one)).1 (next + made_by (one ∷ []))
 answered_more total schema steps index done db next one plain within at a =
     let front = take index steps in
     let more : take (index + 1) steps ≡ front ++ one ∷ [] = take_more steps index one within ∙ ap (λ (s : PlainStep). front ++ s ∷ []) (sym at) in
     record {
       operations = map_more_of done (operation_of next one, (answer schema db (operation_of next one)).0) ∙ ap (λ (os : List Op). os ++ operation_of next one ∷ []) a.operations
-        ∙ ap (λ (n : ℕ). numbered 1 front ++ operation_of n one ∷ []) a.next_id ∙ sym (numbered-snoc 1 front one) ∙ ap (numbered 1) (sym more);
+          ∙ ap (λ (n : ℕ). numbered 1 front ++ operation_of n one ∷ []) a.next_id ∙ sym (numbered-snoc 1 front one) ∙ ap (numbered 1) (sym more);
       next_id = ap (λ (n : ℕ). n + made_by (one ∷ [])) a.next_id ∙ omega (arith, made_by-snoc front one) ∙ ap (λ (xs : List PlainStep). 1 + made_by xs) (sym more);
       runs = run-snoc schema (empty 1) done (operation_of next one, (answer schema db (operation_of next one)).0) db a.runs (same_reply-refl total (answer schema db (operation_of next one)).0);
       classes = length_after schema plain db next one ∙ a.classes;

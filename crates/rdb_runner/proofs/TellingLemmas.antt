@@ -27,6 +27,6 @@ prefix_of_all lines i d taken h t =
     let line = get_or lines i d in
     let tail = concat (drop (suc i) lines) in
     let split : concat lines ≡ front ++ (line ++ tail) =
-      ap concat (sym (take-append-drop i lines)) ∙ concat-append (take i lines) (drop i lines) ∙ ap (λ (r : List (List ℕ)). front ++ concat r) (drop-cons lines i d h) in
+    ap concat (sym (take-append-drop i lines)) ∙ concat-append (take i lines) (drop i lines) ∙ ap (λ (r : List (List ℕ)). front ++ concat r) (drop-cons lines i d h) in
     let all : length (concat lines) ≡ length front + (length line + length tail) = ap length split ∙ length-append front (line ++ tail) ∙ ap (λ n. length front + n) (length-append line tail) in
     (omega arith, ap (take (length front + taken)) split ∙ take-append-add front (line ++ tail) taken ∙ ap (λ (r : List ℕ). front ++ r) (take-append-le taken line tail t))

@@ -39,7 +39,7 @@ CommandOwes command (Some names) sight status text = JobOwes names sight status 
 -- How a command ends: what is owed is told, or memory is wanting and nothing is written. Its job's files are asked in order.
 pub record CommandEnds (command : Command) (sight : Sight) (ink : Ink) (result : ℕ) : Type 0 where
   pub told : ((status : ℕ) × (text : List ℕ) × CommandOwes command (job_of command) sight status text × Tells ink status text result)
-    ⊎ ((result ≡ 8) × IsSilent ink × ((names : List Word) × (job_of command ≡ Some names)))
+      ⊎ ((result ≡ 8) × IsSilent ink × ((names : List Word) × (job_of command ≡ Some names)))
   pub asked : MatchOption (job_of command) (sight.asked_then ≡ sight.asked) (AsksFirst sight)
 
 -- words are owed what the command that they ask for is owed, or the usage

@@ -107,7 +107,7 @@ IsJobWork names sight (Err halt.NoMemory) = sight.faults_then ≡ sight.faults
 pub record JobEnds (names : List (List ℕ)) (sight : Sight) (ink : Ink) (result : ℕ) : Type 0 where
   pub asked : AsksFirst sight names
   pub told : ((status : ℕ) × (text : List ℕ) × JobOwes names sight status text × Tells ink status text result)
-    ⊎ ((result ≡ 8) × IsSilent ink)
+      ⊎ ((result ≡ 8) × IsSilent ink)
 
 -- the text was written whole, and it is due by this fact
 abbrev pub Shows : Ink → (List ℕ → Type 0) → Type 0

@@ -19,7 +19,13 @@ use rdb_base::text::Text;
 use std::alloc::Global;
 
 /// The job of these settings and names, with one client.
-fn job_of(alloc: Global, settings: Settings, schema: &str, schedule: &str, client: &str) -> Result<Job, NoMemory>
+fn job_of(
+    alloc: Global,
+    settings: Settings,
+    schema: &str,
+    schedule: &str,
+    client: &str,
+) -> Result<Job, NoMemory>
     ensures { IfOk result (λ job. (files_of job ≡ names_of schema.now schedule.now client.now) × (job.pages ≡ settings.pages)) }
 {
     let mut clients = List::new(alloc);
@@ -90,12 +96,7 @@ fn end_command<F: Files, K: Sink>(
 }
 
 /// What words end with.
-fn end_words<F: Files, K: Sink>(
-    alloc: Global,
-    words: &[String],
-    files: &mut F,
-    out: &mut K,
-) -> u8
+fn end_words<F: Files, K: Sink>(alloc: Global, words: &[String], files: &mut F, out: &mut K) -> u8
     ensures ends { WordsEnd (map string_bytes words.now) (sight_of F.told F.asked F.faults files.old files.new) (ink_of K.written K.faults out.old out.new) result }
     ensures asked { AsksInOrder (map string_bytes words.now) (sight_of F.told F.asked F.faults files.old files.new) }
 {

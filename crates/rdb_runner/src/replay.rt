@@ -66,7 +66,11 @@ impl From<AllocError> for NoReport {
 }
 
 /// The lines of the report of a schema and a client, once their texts are read.
-fn lines_of(alloc: Global, names: &PlainSchema<'_>, steps: &List<PlainStep>) -> Result<Lines, NoMemory>
+fn lines_of(
+    alloc: Global,
+    names: &PlainSchema<'_>,
+    steps: &List<PlainStep>,
+) -> Result<Lines, NoMemory>
     requires few { length steps.now ≤ 1000 }
     requires each { AllByRecursion IsStep steps.now }
     ensures { IfOk result (λ lines. IsPrinted (schema_of names.now.database.now names.now.class.now names.now.field.now) steps.now (concat lines)) }
@@ -81,7 +85,12 @@ fn lines_of(alloc: Global, names: &PlainSchema<'_>, steps: &List<PlainStep>) -> 
 }
 
 /// The lines of the report of these texts, where each is of the simplest form. The cost grows with the texts.
-fn report_of(alloc: Global, schema: &[u8], schedule: &[u8], client: &[u8]) -> Result<Lines, NoReport>
+fn report_of(
+    alloc: Global,
+    schema: &[u8],
+    schedule: &[u8],
+    client: &[u8],
+) -> Result<Lines, NoReport>
     ensures { IsWork schema.now schedule.now client.now result }
 {
     let Some(names) = plain_schema(schema) else {

@@ -15,7 +15,8 @@ const SCHEDULE: &[u8] = b"1* 1";
 
 const CLIENT: &[u8] = b"begin rw\nnew Item {7}\nget Item 1\ncommit\n";
 
-const REPORT: &[u8] = b"commit 1 client 1 tx 1 begun 0 snapshot 0\n  new Item {7} -> made 1\n  get Item 1 -> {7}\nclosed client 1\nclient 1 done\ntotal commits 1 reads 0 aborts 0 handled 0\n";
+const REPORT: &[u8] =
+    b"commit 1 client 1 tx 1 begun 0 snapshot 0\n  new Item {7} -> made 1\n  get Item 1 -> {7}\nclosed client 1\nclient 1 done\ntotal commits 1 reads 0 aborts 0 handled 0\n";
 
 /// The number of lines of the report.
 const LINES: u32 = 6;
@@ -80,11 +81,31 @@ fn each_refusal_has_its_status_and_line(rt: HostRuntime) -> Result<(), Fail> {
     let alloc = rt.alloc();
     let table = [
         ("", 2, "regiondb: usage\n"),
-        ("replay --pages 0 schema schedule client1", 2, "regiondb: usage\n"),
-        ("replay nothing schedule client1", 3, "regiondb: cannot read nothing\n"),
-        ("replay schema schedule schedule", 10, "regiondb: not built schedule\n"),
-        ("replay client1 schedule schema", 10, "regiondb: not built client1\n"),
-        ("replay schema client1 client1", 10, "regiondb: not built client1\n"),
+        (
+            "replay --pages 0 schema schedule client1",
+            2,
+            "regiondb: usage\n",
+        ),
+        (
+            "replay nothing schedule client1",
+            3,
+            "regiondb: cannot read nothing\n",
+        ),
+        (
+            "replay schema schedule schedule",
+            10,
+            "regiondb: not built schedule\n",
+        ),
+        (
+            "replay client1 schedule schema",
+            10,
+            "regiondb: not built client1\n",
+        ),
+        (
+            "replay schema client1 client1",
+            10,
+            "regiondb: not built client1\n",
+        ),
         ("replay schema schedule", 10, "regiondb: not built replay\n"),
         ("run schema client1", 10, "regiondb: not built run\n"),
         ("audit schema schedule", 10, "regiondb: not built audit\n"),

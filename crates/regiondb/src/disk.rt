@@ -5,9 +5,8 @@ ghost use Rattle.std.specs.Prelude.{◌≡◌, ◌≤◌, IfOk, length, None};
 use rdb_base::files::{Bytes, Files, ReadFault};
 use rdb_base::list::List;
 use std::alloc::Global;
-use std::fs;
 use std::io::Read;
-use std::rt;
+use std::{fs, rt};
 
 /// Reads files of the machine, and counts the reads that fail.
 #[derive(Drop)]

@@ -6,9 +6,8 @@ use disk::Disk;
 use output::Output;
 use rdb_base::gate::NoGate;
 use rdb_runner::region::region_main;
-use std::env;
-use std::io;
 use std::process::ExitCode;
+use std::{env, io};
 
 mod disk;
 mod output;

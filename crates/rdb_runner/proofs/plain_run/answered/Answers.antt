@@ -16,4 +16,4 @@ loop-step-preserved c =
     let within : i < length steps = subst (λ (xs : List PlainStep). i < length xs) c.as_slice-step-items.ensures c.loop-step-test.true in
     let at : one ≡ get_or steps i one = ap (λ (xs : List PlainStep). get_or xs i (New 0)) c.as_slice-step-items.ensures ∙ get_or_default steps i (New 0) one within in
     rw (c.next_id-next.ensures, c.in_ok-push.ensures.ok, c.in_ok-reply.ensures.next, c.in_ok-reply.ensures.reply, c.in_ok-op.ensures)
-      (answered_more c.order_is_total.ensures.rows_total c.args.schema.now steps i c.loop-step.done c.loop-step.db c.loop-step.next one c.requires.plain within at c.loop-step.invariant)
+    (answered_more c.order_is_total.ensures.rows_total c.args.schema.now steps i c.loop-step.done c.loop-step.db c.loop-step.next one c.requires.plain within at c.loop-step.invariant)

@@ -14,4 +14,3 @@ returns-in-Check g c = rw c.in-Check.is c.tell-in-Check.ensures
 
 pub returns-in-Job : goal.returns-in-Job
 returns-in-Job g c = rw c.in-Job.is c.tell-in-Job.ensures
-

@@ -11,4 +11,4 @@ returns g c =
     let client = c.at.result.now in
     let last : c.as_str-client.result.now ∷ [] ≡ job.clients = ap (λ (x : List ℕ). x ∷ []) c.as_str-client.ensures ∙ sym (single job.clients client c.requires c.at.ensures) in
     subst (λ (names : List (List ℕ)). JobEnds names (sight_of g.F.Files.told g.F.Files.asked g.F.Files.faults c.args.files.now c.end_job.new.files) (ink_of g.K.Sink.written g.K.Sink.faults c.args.out.now c.end_job.new.out) c.end_job.result)
-      (λ i. c.as_str-schema.ensures i ∷ c.as_str-schedule.ensures i ∷ last i) c.end_job.ensures
+    (λ i. c.as_str-schema.ensures i ∷ c.as_str-schedule.ensures i ∷ last i) c.end_job.ensures
