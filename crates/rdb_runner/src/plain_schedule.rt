@@ -40,10 +40,11 @@ pub fn is_plain_schedule(text: &[u8]) -> bool
     if !begins_with(first, b"1*") {
         return false;
     }
-    let between = &first[2..];
+    let (_, between) = first.split_at(2);
     let second = after_blanks(between);
     if second.len() == between.len() || !begins_with(second, b"1") {
         return false;
     }
-    after_blanks(&second[1..]).is_empty()
+    let (_, rest) = second.split_at(1);
+    after_blanks(rest).is_empty()
 }

@@ -1,4 +1,5 @@
-use Rattle.rdb_runner.specs.Promise.{names_of}
+use Rattle.std.proofs.Common.{subst, Err}
+use Rattle.rdb_runner.specs.Promise.{names_of, IsJobWork}
 use Rattle.rdb_runner.specs.Reading.{sight_of}
 use Rattle.rdb_runner.specs.Telling.{ink_of}
 use Rattle.rdb_runner.proofs.JobLemmas.{other_told}
@@ -6,8 +7,11 @@ use Rattle.rdb_runner.proofs.replay.end_job.Goals as goal
 
 pub returns-in-Err-NotBuilt : goal.returns-in-Err-NotBuilt
 returns-in-Err-NotBuilt g c =
+    let names = names_of c.args.schema.now c.args.schedule.now c.args.client.now in
+    let sight = sight_of g.F.Files.told g.F.Files.asked g.F.Files.faults c.args.files.now c.work.new.files in
+    let ink = ink_of g.K.Sink.written g.K.Sink.faults c.args.out.now c.tell_name-in-Err-NotBuilt.new.out in
     let name = c.name_at-name-in-Err-NotBuilt in
     record {
-      asked = c.work.ensures.asked;
-      told = other_told (names_of c.args.schema.now c.args.schedule.now c.args.client.now) _ _ c.tell_name-in-Err-NotBuilt.result c.in-Err-NotBuilt.place name.result.now c.in-Err-NotBuilt.ensures.work name.ensures c.tell_name-in-Err-NotBuilt.ensures;
+        asked = c.work.ensures.asked;
+        told = other_told names sight ink c.tell_name-in-Err-NotBuilt.result c.in-Err-NotBuilt.place name.result.now (subst (λ h. IsJobWork names sight (Err h)) c.in-Err-NotBuilt.field-0-is (subst (IsJobWork names sight) c.in-Err-NotBuilt.is c.work.ensures.work)) name.ensures c.tell_name-in-Err-NotBuilt.ensures
     }
