@@ -1,4 +1,6 @@
 //! Rows as bytes: the encoding of a class's rows, its writer and its readers.
 #![tactic(auto)]
 
+pub mod accessors;
+pub mod encode;
 pub mod types;
