@@ -1,2 +1,4 @@
 pub mod Lengths
 pub mod Pairs
+pub mod Walking
+pub mod Reading

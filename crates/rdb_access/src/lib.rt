@@ -3,4 +3,6 @@
 
 pub mod accessors;
 pub mod encode;
+mod read;
 pub mod types;
+mod walk;
