@@ -191,8 +191,8 @@ fits-row schema class c row e =
     ∙ sym (ap (λ o. option_map_or (λ c. values_hold schema c.fields row) o false) e)
 
 -- a row of a class is one of the class's types
-pub row_fits-of : (schema : Schema) (class : ℕ) (row : List Value) → row_holds schema class row ≡ true → row_fits (types_of schema class) row ≡ true
-row_fits-of schema class row e = go (slice_get schema.classes class) e
+pub row_fits_of : (schema : Schema) (class : ℕ) (row : List Value) → row_holds schema class row ≡ true → row_fits (types_of schema class) row ≡ true
+row_fits_of schema class row e = go (slice_get schema.classes class) e
   where
     go : (o : Option Class) → option_map_or (λ c. values_hold schema c.fields row) o false ≡ true → row_fits (option_map_or (λ c. map (λ f. value_type schema f.ty) c.fields) o []) row ≡ true
     go None e = absurd cc

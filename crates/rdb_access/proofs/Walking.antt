@@ -57,7 +57,7 @@ elements_step of (x ∷ xs) rest e =
     ∙ ap (after_elements of (length xs)) (element_step of x (flat_map (element_bytes of) xs ++ rest) (first_of (element_fits of x) (list_all (element_fits of) xs) e))
     ∙ elements_step of xs rest (second_of (element_fits of x) (list_all (element_fits of) xs) e)
 
-value_step : (t : ValueType) (v : Value) (rest : List ℕ) → value_fits t v ≡ true → after_value t (value_bytes t v ++ rest) ≡ rest
+pub value_step : (t : ValueType) (v : Value) (rest : List ℕ) → value_fits t v ≡ true → after_value t (value_bytes t v ++ rest) ≡ rest
 value_step (values.Leaf t) (value.Leaf l) rest e = leaf_step t l rest e
 value_step (values.Leaf t) (value.List xs) rest e = (cc)
 value_step (values.Leaf t) (value.Group ls) rest e = (cc)

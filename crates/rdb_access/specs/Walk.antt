@@ -71,3 +71,16 @@ items_by _ xs = []
 -- the bytes of a vector in a field
 abbrev pub items_in : List ValueType → ℕ → List ℕ → List ℕ
 items_in types field xs = items_by (slice_get types field) (after_values (take field types) xs)
+
+-- the words of the text that bytes begin with
+abbrev pub text_from : List ℕ → List ℕ
+text_from xs = take (slice_index xs 0) (drop 1 xs)
+
+-- the words of the text that bytes begin with, where the type is a text's
+abbrev pub text_by : Option ValueType → List ℕ → List ℕ
+text_by (Some (values.Leaf ty.Str)) xs = text_from xs
+text_by _ xs = []
+
+-- the words of the text in a field
+abbrev pub text_in : List ValueType → ℕ → List ℕ → List ℕ
+text_in types field xs = text_by (slice_get types field) (after_values (take field types) xs)

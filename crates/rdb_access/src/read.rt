@@ -1,10 +1,11 @@
 //! Reads of one field: the steps to it, and its value. It reads bytes, takes no memory, and lends what stands there.
 
 ghost use Rattle.std.specs.Prelude.{◌≡◌, take};
-ghost use Rattle.rdb_access.specs.Walk.{number_from, number_in, items_in, after_values, before};
+ghost use Rattle.rdb_access.specs.Walk.{number_from, number_in, text_from, text_in, items_in, after_values, before};
+ghost use Rattle.std.specs.Str.{IsUtf8};
 
 use crate::types::{ValueType, ValueTypes};
-use crate::walk::{after_value, after_values};
+use crate::walk::{after, after_value, after_values, first_byte};
 use byteorder::{ByteOrder, LittleEndian};
 use rdb_schema::schema::FieldType;
 
@@ -64,5 +65,32 @@ pub(crate) fn items_in<'a>(types: &ValueTypes, bytes: &'a [u8], field: usize) ->
             before(there, after_value(ty, there))
         }
         _ => &[],
+    }
+}
+
+fn text_from(bytes: &[u8]) -> &[u8]
+    ensures { result.now ≡ text_from bytes.now }
+{
+    let rest = after(bytes, 1);
+    &rest[..first_byte(bytes).min(rest.len())]
+}
+
+/// The words of the text in a field; none where it is no text's.
+pub(crate) fn text_in<'a>(types: &ValueTypes, bytes: &'a [u8], field: usize) -> &'a [u8]
+    ensures { result.now ≡ text_in types.now field bytes.now }
+{
+    match types.as_slice().get(field) {
+        Some(ValueType::Leaf(FieldType::Str)) => text_from(from_field(types, bytes, field)),
+        _ => &[],
+    }
+}
+
+/// The words as a text; none where they are no UTF-8.
+pub(crate) fn as_text(words: &[u8]) -> &str
+    ensures { IsUtf8 words.now → result.now ≡ words.now }
+{
+    match str::from_utf8(words) {
+        Ok(text) => text,
+        Err(_) => "",
     }
 }
