@@ -3,3 +3,6 @@ pub mod KeysLemmas
 pub mod ClashLemmas
 pub mod SeekLemmas
 pub mod FitsLemmas
+pub mod FittingLemmas
+pub mod TouchLemmas
+pub mod LawsLemmas

@@ -1,11 +1,12 @@
 -- Which operations fit a schema, and which databases.
 use Rattle.std.specs.Prelude.{ℕ, Bool, true, false, ◌&&◌, ◌≤◌, nat_lt, nat_le, int_le, List, [], length, slice_get, IsTrue}
-use Rattle.std.specs.List.{filter_map}
+use Rattle.std.specs.List.{filter_map, All}
 use Rattle.std.specs.Option.{option_map_or}
 use Rattle.rdb_base.specs.declared.identity.Kind.{Kind}
 use Rattle.rdb_base.specs.declared.identity.Kind.TheVariants as kind
 use Rattle.rdb_base.specs.declared.operation.Op.{Op}
 use Rattle.rdb_base.specs.declared.operation.Op.TheVariants as op
+use Rattle.rdb_base.specs.declared.operation.Reply.{Reply}
 use Rattle.rdb_base.specs.declared.operation.Place.{Place}
 use Rattle.rdb_base.specs.declared.operation.Place.TheVariants as place
 use Rattle.rdb_schema.specs.declared.schema.Field.{Field}
@@ -85,3 +86,7 @@ Fits schema op kind = IsTrue (fits schema op kind)
 -- that no class has more than eight indexes, as the rules of schemas have it
 abbrev pub HasFewIndexes : Schema → Type 0
 HasFewIndexes schema = (class : ℕ) → length (indexes_of schema class) ≤ 8
+
+-- that each of the operations fits
+abbrev pub AllFit : Schema → Kind → List (Op × Reply) → Type 0
+AllFit schema kind done = All (λ d. Fits schema d.0 kind) done

@@ -27,6 +27,11 @@ is_commit _ = false
 abbrev pub commits : List Entry → ℕ
 commits journal = length (filter is_commit journal)
 
+-- the operations of a commit, with their replies, or none
+abbrev pub done_of : Entry → List (Op × Reply)
+done_of (entry.Commit story commit) = story.done
+done_of _ = []
+
 -- the operations of a commit, with their replies
 abbrev pub committed : Entry → Option (List (Op × Reply))
 committed (entry.Commit story commit) = Some story.done

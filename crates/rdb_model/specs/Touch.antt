@@ -1,5 +1,5 @@
 -- Which rows a reply rests on, and whether a commit touches an operation: backward validation (Kung and Robinson, 1981), on rows.
-use Rattle.std.specs.Prelude.{ℕ, Bool, true, false, ◌&&◌, ◌||◌, not, ◌==◌, List, Option, Some, None}
+use Rattle.std.specs.Prelude.{slice_get, ℕ, ◌-◌, Bool, true, false, ◌&&◌, ◌||◌, not, ◌==◌, List, Option, Some, None}
 use Rattle.std.specs.List.{filter_map, list_any}
 use Rattle.std.specs.Option.{option_map_or}
 use Rattle.std.specs.Ordering.{is_lt, is_gt}
@@ -9,25 +9,25 @@ use Rattle.rdb_base.specs.declared.operation.How.{How}
 use Rattle.rdb_base.specs.declared.operation.How.TheVariants as how
 use Rattle.rdb_base.specs.declared.operation.Reply.{Reply}
 use Rattle.rdb_base.specs.declared.operation.Reply.TheVariants as reply
+use Rattle.rdb_base.specs.declared.journal.Story.{Story}
+use Rattle.rdb_base.specs.declared.journal.Entry.{Entry}
 use Rattle.rdb_schema.specs.declared.schema.Schema.{Schema}
 use Rattle.rdb_schema.specs.declared.schema.IndexDecl.{IndexDecl}
 use Rattle.rdb_model.specs.Database.{Row, Database, objects_of, row_of}
-use Rattle.rdb_model.specs.Index.{indexes_of, fields_of, key, has_key, pair_order}
-use Rattle.rdb_model.specs.Answer.{is_after, is_before, meets, words_of, starts}
+use Rattle.rdb_model.specs.Index.{indexes_of, fields_of, key, has_key, pair_order, pair_of}
+use Rattle.rdb_model.specs.Answer.{is_beyond, meets, words_of, starts}
 use Rattle.rdb_model.specs.Story.{after}
+use Rattle.rdb_model.specs.Journal.{done_of}
 
 -- whether a row has the key of the other in some unique index
 abbrev pub shares_key : List IndexDecl → Row → Row → Bool
 shares_key indexes row other = list_any (λ i. i.unique && has_key i.key (key i.key row) other) indexes
 
--- whether the pair isn't beyond what was found, going up, and going down
-abbrev pub up_to : Reply → Row × ℕ → Bool
-up_to (reply.At found id) pair = not (is_gt (pair_order pair (found, id)))
-up_to _ pair = true
-
-abbrev pub down_to : Reply → Row × ℕ → Bool
-down_to (reply.At found id) pair = not (is_lt (pair_order pair (found, id)))
-down_to _ pair = true
+-- whether the pair isn't beyond what was found, going up or down
+abbrev pub is_within : Bool → Reply → Row × ℕ → Bool
+is_within true (reply.At found id) pair = not (is_gt (pair_order pair (found, id)))
+is_within false (reply.At found id) pair = not (is_lt (pair_order pair (found, id)))
+is_within up _ pair = true
 
 -- whether a key equals the text; is a prefix of it; or begins with it
 abbrev pub relates : How → List ℕ → List ℕ → Bool
@@ -54,8 +54,8 @@ rests schema (op.Get class wanted) told id other = id == wanted
 rests schema (op.Put class wanted row) told id other = (id == wanted) || shares_key (indexes_of schema class) row other
 rests schema (op.Del class wanted) told id other = id == wanted
 rests schema (op.Find class at wanted) told id other = has_key (fields_of schema class at) wanted other
-rests schema (op.Seek class at from true) told id other = let pair : Row × ℕ = (key (fields_of schema class at) other, id) in is_after from pair && up_to told pair
-rests schema (op.Seek class at from false) told id other = let pair : Row × ℕ = (key (fields_of schema class at) other, id) in is_before from pair && down_to told pair
+rests schema (op.Seek class at from up) told id other =
+    is_beyond from up (pair_of (fields_of schema class at) (id, other)) && is_within up told (pair_of (fields_of schema class at) (id, other))
 rests schema (op.Area class at rect inside) told id other = meets rect inside (key (fields_of schema class at) other)
 rests schema (op.Prefix class at text way) told id other = option_map_or (relates way text) (words_of (key (fields_of schema class at) other)) false
 rests schema (op.Count class) told id other = true
@@ -72,7 +72,14 @@ abbrev pub rests_on : Schema → Database → Op × Reply → ℕ × ℕ → Boo
 rests_on schema db d object =
     (object.0 == class_of d.0) && option_map_or (rests schema d.0 d.1 object.1) (row_of (objects_of db object.0) object.1) false
 
--- whether operations that are done on a database write an object on which the reply to another operation rests, as it was before them or as it is after
+-- whether the reply to an operation rests on an object that operations wrote, as it was before them or as it is after
+abbrev pub any_rests : Schema → Database → Database → Op × Reply → List (Op × Reply) → Bool
+any_rests schema before next d done = list_any (λ object. rests_on schema before d object || rests_on schema next d object) (filter_map written_by done)
+
+-- whether operations that are done on a database touch another operation
 abbrev pub touches : Schema → Database → List (Op × Reply) → Op × Reply → Bool
-touches schema before done d =
-    list_any (λ object. rests_on schema before d object || rests_on schema (after schema before done) d object) (filter_map written_by done)
+touches schema before done d = any_rests schema before (after schema before done) d done
+
+-- whether a commit on a database touches the operation of that number, from 1, of a story
+abbrev pub touched : Schema → Database → Entry → Story → ℕ → Bool
+touched schema before commit story operation = option_map_or (touches schema before (done_of commit)) (slice_get story.done (operation - 1)) false

@@ -4,7 +4,10 @@ ghost use Rattle.std.specs.Prelude.{◌≡◌, ◌<◌, length, IfOk, OnOk, OnEr
 ghost use Rattle.rdb_base.specs.declared.operation.Op.{Op};
 ghost use Rattle.rdb_base.specs.declared.operation.Op.TheVariants as op;
 ghost use Rattle.rdb_base.specs.declared.identity.Kind.{Kind};
-ghost use Rattle.rdb_model.specs.Database.{empty};
+ghost use Rattle.std.specs.List.{All};
+ghost use Rattle.std.specs.Option.{option_map, option_copied};
+ghost use Rattle.rdb_model.specs.Database.{empty, objects_of, row_of};
+ghost use Rattle.rdb_model.specs.Story.{after};
 ghost use Rattle.rdb_model.specs.Answer.{answer};
 ghost use Rattle.rdb_model.specs.Fits.{Fits, HasFewIndexes};
 ghost use Rattle.rdb_model.specs.Index.{indexes_of};
@@ -15,6 +18,7 @@ use crate::keys::copy_key;
 use crate::lookups::{ids_with_box, ids_with_key, ids_with_prefix};
 use crate::objects::Objects;
 use crate::seek::seek;
+use rdb_base::journal::Done;
 use rdb_base::list::NoMemory;
 use rdb_base::operation::{How, Op, Place, Reply};
 use rdb_base::text::Text;
@@ -47,6 +51,55 @@ impl Db {
             made.push(Objects::new(alloc))?;
         }
         Ok(Db { classes: made })
+    }
+
+    /// How many classes there are.
+    pub fn classes(&self) -> usize
+        ensures { result ≡ length self.now }
+    {
+        self.classes.len()
+    }
+
+    /// An equal database. The cost grows with all that its rows hold.
+    pub fn copy(&self) -> Result<Db, NoMemory>
+        ensures { IfOk result (λ copy. copy ≡ self.now) }
+    {
+        let classes = copy_classes(*self.classes.allocator(), &self.classes)?;
+        Ok(Db { classes })
+    }
+
+    /// The id and the row of the object at a place among those of a class, from 0, or None exactly past their end. It takes no memory, and
+    /// constant time.
+    pub fn object(&self, class: u32, place: usize) -> Option<(u64, &Row)>
+        requires { class < length self.now }
+        ensures { option_map (λ found. (found.0, found.1.now)) result ≡ slice_get (objects_of self.now class) place }
+    {
+        match self.classes[class as usize].as_slice().get(place) {
+            Some((id, row)) => Some((*id, row)),
+            None => None,
+        }
+    }
+
+    /// The row of the object of an id, lent. The cost grows with the logarithm of the number of the class's objects.
+    pub fn row(&self, class: u32, id: u64) -> Option<&Row>
+        requires { class < length self.now }
+        ensures { option_copied result ≡ row_of (objects_of self.now class) id }
+    {
+        self.classes[class as usize].row(id)
+    }
+
+    /// Does operations one after another, whatever they are told. Where memory is wanting some of them are done.
+    pub fn apply_all(&mut self, schema: &Schema, done: &Done) -> Result<(), NoMemory>
+        requires fits { All (λ d. Fits schema.now d.0 Kind.ReadWrite) done.now }
+        requires classes { length self.old ≡ length schema.now.classes }
+        requires few_indexes { HasFewIndexes schema.now }
+        ensures next { OnOk result (self.new ≡ after schema.now self.old done.now) }
+        ensures classes { length self.new ≡ length self.old }
+    {
+        for (op, _) in done.as_slice() {
+            let _ = self.apply(schema, op)?;
+        }
+        Ok(())
     }
 
     // Makes an object, unless a unique index has its key.
@@ -249,4 +302,15 @@ impl Db {
             Op::Count { class } => Ok(self.count(schema, *class)),
         }
     }
+}
+
+// Copies of the objects of each class.
+fn copy_classes(alloc: Global, classes: &[Objects]) -> Result<Vec<Objects>, NoMemory>
+    ensures { IfOk result (λ copies. copies.items ≡ classes.now) }
+{
+    let mut copies = Vec::with_capacity(alloc, classes.len())?;
+    for objects in classes {
+        copies.push(objects.copy()?)?;
+    }
+    Ok(copies)
 }

@@ -4,8 +4,13 @@
 mod clash;
 pub mod db;
 mod declared;
+pub mod fitting;
 mod keys;
+pub mod laws;
 pub mod legality;
 mod lookups;
 pub mod objects;
 mod seek;
+#[cfg(test)]
+mod tests;
+pub mod touching;

@@ -84,6 +84,14 @@ impl Objects {
         }
     }
 
+    /// An equal list of objects. The cost grows with all that their rows hold.
+    pub fn copy(&self) -> Result<Objects, NoMemory>
+        ensures { IfOk result (λ copy. copy ≡ self.now) }
+    {
+        let pairs = copy_pairs(*self.pairs.allocator(), &self.pairs)?;
+        Ok(Objects { pairs })
+    }
+
     // Where the id is, or where it would go.
     fn search(&self, id: u64) -> Result<usize, usize>
         ensures found { IfOk result (IsAt self.now id) }
@@ -91,4 +99,15 @@ impl Objects {
     {
         self.pairs.binary_search_by_key(&id, |pair| pair.0)
     }
+}
+
+// Copies of pairs of an id and its row.
+fn copy_pairs(alloc: Global, pairs: &[(u64, Row)]) -> Result<Vec<(u64, Row)>, NoMemory>
+    ensures { IfOk result (λ copies. copies.items ≡ pairs.now) }
+{
+    let mut copies = Vec::with_capacity(alloc, pairs.len())?;
+    for (id, row) in pairs {
+        copies.push((*id, row.copy()?))?;
+    }
+    Ok(copies)
 }

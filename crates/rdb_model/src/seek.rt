@@ -34,25 +34,24 @@ pub(crate) fn seek<'a>(
 }
 
 /// Whether an object's pair is after a place, or before it.
-pub(crate) fn is_beyond(fields: &Numbers, object: &(u64, Row), place: &Place, up: bool) -> bool
-    ensures { result ≡ is_beyond place.now up (pair_of fields.now object.now) }
+pub(crate) fn is_beyond(fields: &Numbers, id: u64, row: &Row, place: &Place, up: bool) -> bool
+    ensures { result ≡ is_beyond place.now up (pair_of fields.now (id, row.now)) }
 {
     match place {
         Place::Start => up,
         Place::End => !up,
-        Place::At { key, id } => {
-            let order = compare_pair(fields, object, key, *id);
+        Place::At { key, id: from } => {
+            let order = compare_pair(fields, id, row, key, *from);
             if up { order.is_gt() } else { order.is_lt() }
         }
     }
 }
 
 /// Compares an object's pair with another pair.
-pub(crate) fn compare_pair(fields: &Numbers, object: &(u64, Row), key: &Row, id: u64) -> Ordering
-    ensures { result ≡ pair_order (pair_of fields.now object.now) (key.now, id) }
+pub(crate) fn compare_pair(fields: &Numbers, id: u64, row: &Row, key: &Row, other: u64) -> Ordering
+    ensures { result ≡ pair_order (pair_of fields.now (id, row.now)) (key.now, other) }
 {
-    let (own_id, row) = object;
-    compare_key(fields, row, key).then(own_id.cmp(&id))
+    compare_key(fields, row, key).then(id.cmp(&other))
 }
 
 // Whether an object's pair takes the place of the best so far: going up where it comes before it, going down where it doesn't.
@@ -66,7 +65,7 @@ fn is_better(
     ensures { result ≡ (is_beyond place.now up (pair_of fields.now object.now)
         && takes up (pair_of fields.now object.now) (option_map (pair_of fields.now) (option_copied best.entry))) }
 {
-    if !is_beyond(fields, object, place, up) {
+    if !is_beyond(fields, object.0, &object.1, place, up) {
         return false;
     }
     match best {

@@ -3,3 +3,5 @@ pub mod Escapes
 pub mod Scan
 pub mod Passing
 pub mod Building
+pub mod ValuesLemmas
+pub mod SmallLemmas

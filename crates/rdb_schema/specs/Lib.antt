@@ -3,3 +3,4 @@ pub mod Values
 pub mod Rules
 pub mod Seen
 pub mod Meaning
+pub mod Capped

@@ -1,7 +1,7 @@
 -- What values a type has, and how many bytes they take by the encoding of rows.
-use Rattle.std.specs.Prelude.{ℕ, ◌+◌, ◌-◌, ◌*◌, ◌^◌, Bool, true, false, ◌&&◌, ◌||◌, ◌==◌, nat_le, ℤ, pos, neg_ℤ, int_le, List, [], ◌∷◌, length, slice_get, if◌then◌else◌}
+use Rattle.std.specs.Prelude.{ℕ, ◌≤◌, ◌+◌, ◌-◌, ◌*◌, ◌^◌, Bool, true, false, ◌&&◌, ◌||◌, ◌==◌, nat_le, ℤ, pos, neg_ℤ, int_le, List, [], ◌∷◌, length, slice_get, if◌then◌else◌}
 use Rattle.std.specs.List.{list_all}
-use Rattle.std.specs.Option.{option_map_or}
+use Rattle.std.specs.Option.{option_map_or, ForSome}
 use Rattle.rdb_base.specs.declared.value.Leaf.{Leaf}
 use Rattle.rdb_base.specs.declared.value.Leaf.TheVariants as leaf
 use Rattle.rdb_base.specs.declared.value.Element.{Element}
@@ -17,14 +17,18 @@ use Rattle.rdb_schema.specs.declared.schema.Group.{Group}
 use Rattle.rdb_schema.specs.declared.schema.Class.{Class}
 use Rattle.rdb_schema.specs.declared.schema.Schema.{Schema}
 
--- whether numbers may take that many bytes
-abbrev pub is_width : ℕ → Bool
-is_width bytes = (bytes == 1) || ((bytes == 2) || ((bytes == 4) || (bytes == 8)))
+-- whether a number has that many bits, in two's complement where it is signed
+abbrev pub has_bits : ℕ → Bool → ℤ → Bool
+has_bits bits true n = int_le (neg_ℤ (pos (2 ^ (bits - 1)))) n && int_le n (pos (2 ^ (bits - 1) - 1))
+has_bits bits false n = int_le (pos 0) n && int_le n (pos (2 ^ bits - 1))
 
--- whether a number is in the range of its bytes, in two's complement where it is signed
+-- whether a number is in the range of its bytes, of which there are 1, 2, 4 or 8
 abbrev pub num_holds : ℕ → Bool → ℤ → Bool
-num_holds bytes true n = is_width bytes && (int_le (neg_ℤ (pos (2 ^ (8 * bytes - 1)))) n && int_le n (pos (2 ^ (8 * bytes - 1) - 1)))
-num_holds bytes false n = is_width bytes && (int_le (pos 0) n && int_le n (pos (2 ^ (8 * bytes) - 1)))
+num_holds bytes signed n =
+    if bytes == 1 then has_bits 8 signed n
+    else (if bytes == 2 then has_bits 16 signed n
+    else (if bytes == 4 then has_bits 32 signed n
+    else (if bytes == 8 then has_bits 64 signed n else false)))
 
 -- whether a leaf is one of a type: numbers in range, texts of at most 255 bytes, boxes whose first corner isn't beyond the second
 abbrev pub leaf_holds : FieldType → Leaf → Bool
@@ -116,3 +120,8 @@ row_holds schema class row = option_map_or (λ c. values_hold schema c.fields ro
 -- how many bytes a row of a class takes
 abbrev pub row_length : Schema → ℕ → List Value → ℕ
 row_length schema class row = option_map_or (λ c. values_length schema c.fields row) (slice_get schema.classes class) 0
+
+-- that no class and no struct has more than 32 fields, as the rules of schemas have it
+abbrev pub HasFewFields : Schema → Type 0
+HasFewFields schema =
+    ((class : ℕ) → ForSome (slice_get schema.classes class) (λ c. length c.fields ≤ 32)) × ((group : ℕ) → ForSome (slice_get schema.groups group) (λ g. length g.fields ≤ 32))

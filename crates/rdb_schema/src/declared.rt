@@ -228,12 +228,7 @@ fn estimate_of(body: &[Part]) -> Option<u32>
 }
 
 #[tactic(auto, unfolding(crate::specs::Meaning::class_of))]
-fn class_of(
-    alloc: Global,
-    groups: &[Group],
-    name: &Text,
-    body: &[Part],
-) -> Result<Class, NoMemory>
+fn class_of(alloc: Global, groups: &[Group], name: &Text, body: &[Part]) -> Result<Class, NoMemory>
     ensures { IfOk result (λ class. class ≡ class_of groups.now name.now body.now) }
 {
     let fields = fields_of(alloc, groups, body)?;

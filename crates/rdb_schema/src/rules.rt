@@ -217,9 +217,7 @@ fn is_bad_key(kind: IndexKind, ty: &Part, name: &Text, keys: &[Part]) -> bool
     ensures { result ≡ is_bad_key kind ty.now name.now keys.now }
 {
     match kind {
-        IndexKind::Hash | IndexKind::Tree => {
-            !is_sortable(ty) || is_in_key(name, keys)
-        }
+        IndexKind::Hash | IndexKind::Tree => { !is_sortable(ty) || is_in_key(name, keys) }
         IndexKind::Patricia => !is_text(ty) || !keys.is_empty(),
         IndexKind::Rtree => !is_box(ty) || !keys.is_empty(),
     }
