@@ -4,5 +4,7 @@
 pub mod accessors;
 pub mod encode;
 mod read;
+#[cfg(test)]
+mod tests;
 pub mod types;
 mod walk;
