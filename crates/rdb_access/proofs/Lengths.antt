@@ -1,5 +1,5 @@
 -- The encoding of a row is as long as `row_length` says, and a row of a class is one of the class's types.
-use Rattle.std.proofs.Common.{◌≡◌, ℕ, ◌+◌, Bool, true, false, ◌&&◌, List, [], ◌∷◌, ◌++◌, length, map, flat_map, Option, Some, None, slice_get, refl, sym, ap, ◌∙◌, arith, length-append}
+use Rattle.std.proofs.Common.{◌≡◌, ℕ, true, false, ◌&&◌, List, [], ◌∷◌, length, map, flat_map, Option, Some, None, slice_get, refl, sym, ap, ◌∙◌, arith, length-append}
 use Rattle.std.specs.Prelude.{nat_le}
 use Rattle.std.specs.List.{list_all}
 use Rattle.std.specs.Option.{option_map_or}
@@ -18,9 +18,9 @@ use Rattle.rdb_schema.specs.declared.schema.Field.{Field}
 use Rattle.rdb_schema.specs.declared.schema.Group.{Group}
 use Rattle.rdb_schema.specs.declared.schema.Class.{Class}
 use Rattle.rdb_schema.specs.declared.schema.Schema.{Schema}
-use Rattle.rdb_schema.specs.Values.{leaf_holds, leaves_hold, group_holds, element_holds, holds, values_hold, row_holds, leaf_length, leaves_length, group_length, element_length, elements_length, value_length, values_length, row_length}
+use Rattle.rdb_schema.specs.Values.{leaf_holds, leaves_hold, element_holds, holds, values_hold, row_holds, leaf_length, leaves_length, element_length, elements_length, value_length, values_length, row_length}
 use Rattle.rdb_access.specs.Types.{leaf_types, element_type, value_type, types_of, all_pairs, element_fits, value_fits, row_fits}
-use Rattle.rdb_access.specs.Encoding.{pattern, number_bytes, leaf_bytes, leaves_bytes, element_bytes, vector_bytes, value_bytes, row_bytes, encoding}
+use Rattle.rdb_access.specs.Encoding.{pattern, number_bytes, leaf_bytes, leaves_bytes, element_bytes, value_bytes, row_bytes, encoding}
 use Rattle.rdb_access.specs.declared.types.ElementType.TheVariants as elements
 use Rattle.rdb_access.specs.declared.types.ValueType.TheVariants as values
 

@@ -1,5 +1,5 @@
 -- Two lists side by side, from a place on.
-use Rattle.std.proofs.Common.{◌≡◌, ℕ, zero, suc, ◌+◌, Bool, true, false, ◌&&◌, List, [], ◌∷◌, ◌++◌, drop, Option, Some, None, slice_get, Result, Ok, Err, refl, sym, ap, ◌∙◌, append_assoc, add-one, arith, ℤ}
+use Rattle.std.proofs.Common.{◌≡◌, ℕ, zero, suc, ◌+◌, Bool, true, false, ◌&&◌, List, [], ◌∷◌, ◌++◌, drop, Some, slice_get, Result, Ok, Err, refl, sym, ap, ◌∙◌, append_assoc, add-one, ℤ}
 use Rattle.std.specs.Prelude.{OnOk}
 use Rattle.rdb_base.specs.declared.value.Rect.{Rect}
 use Rattle.rdb_access.specs.Types.{all_pairs}

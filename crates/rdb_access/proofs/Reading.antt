@@ -1,5 +1,5 @@
 -- A field that is read is the row's.
-use Rattle.std.proofs.Common.{◌≡◌, ℕ, zero, suc, ◌+◌, ◌-◌, ◌*◌, ◌^◌, ◌<◌, ◌≤◌, Bool, true, false, ◌&&◌, ltb, ◌==◌, if◌then◌else◌, List, [], ◌∷◌, ◌++◌, length, take, drop, Option, Some, None, slice_get, refl, sym, ap, ◌∙◌, arith, length-append, ℤ, pos, neg_ℤ}
+use Rattle.std.proofs.Common.{◌≡◌, ℕ, zero, suc, ◌-◌, ◌*◌, ◌^◌, ◌<◌, ◌≤◌, Bool, true, false, ◌&&◌, ◌==◌, if◌then◌else◌, List, [], ◌∷◌, ◌++◌, length, take, drop, Some, slice_get, refl, sym, ap, ◌∙◌, arith, length-append, ℤ, pos, neg_ℤ}
 use Rattle.std.specs.Prelude.{nat_le, nat_lt, int_le, negsuc, ◌-ℤ◌}
 use Rattle.std.proofs.lemmas.Bool.{le-ltb, lt-ltb, false≢true}
 use Rattle.std.proofs.lemmas.Bool.Decides.{nat_tests}
@@ -7,20 +7,18 @@ use Rattle.std.proofs.lemmas.Int.{ints}
 use Rattle.std.proofs.lemmas.List.{take_at}
 use Rattle.byteorder.specs.Endian.{little_number, twos_complement}
 use Rattle.byteorder.specs.Numbers.{little_number-reads_back}
-use Rattle.rdb_base.specs.declared.value.Leaf.{Leaf}
 use Rattle.rdb_base.specs.declared.value.Leaf.TheVariants as leaf
 use Rattle.rdb_base.specs.declared.value.Element.{Element}
 use Rattle.rdb_base.specs.declared.value.Value.{Value}
 use Rattle.rdb_base.specs.declared.value.Value.TheVariants as value
-use Rattle.rdb_schema.specs.declared.schema.FieldType.{FieldType}
 use Rattle.rdb_schema.specs.declared.schema.FieldType.TheVariants as ty
-use Rattle.rdb_schema.specs.Values.{num_holds, leaf_holds}
+use Rattle.rdb_schema.specs.Values.{num_holds}
 use Rattle.rdb_access.specs.declared.types.ElementType.{ElementType}
 use Rattle.rdb_access.specs.declared.types.ValueType.{ValueType}
 use Rattle.rdb_access.specs.declared.types.ValueType.TheVariants as values
 use Rattle.rdb_access.specs.Types.{value_fits, row_fits}
 use Rattle.rdb_access.specs.Encoding.{pattern, number_bytes, vector_bytes, value_bytes, row_bytes}
-use Rattle.rdb_access.specs.Walk.{number_from, number_by, number_in, after_values, after_value, before, items_by, items_in, text_by, text_in}
+use Rattle.rdb_access.specs.Walk.{number_from, number_by, number_in, after_values, before, items_by, items_in, text_by, text_in}
 use Rattle.rdb_access.proofs.Lengths.{length-number}
 use Rattle.rdb_access.proofs.Pairs.{first_of, second_of}
 use Rattle.rdb_access.proofs.Walking.{value_there, bytes_there, value_step}

@@ -1,5 +1,5 @@
 -- A step over a value's bytes leaves what stands behind them.
-use Rattle.std.proofs.Common.{◌≡◌, ℕ, zero, suc, ◌+◌, ◌-◌, ◌<◌, Bool, true, false, ◌&&◌, List, [], ◌∷◌, ◌++◌, length, take, drop, flat_map, Option, Some, None, slice_get, refl, sym, ap, ◌∙◌, append_assoc, add-one, arith}
+use Rattle.std.proofs.Common.{◌≡◌, ℕ, zero, suc, ◌+◌, ◌-◌, ◌<◌, true, List, [], ◌∷◌, ◌++◌, length, take, drop, flat_map, Some, slice_get, refl, ap, ◌∙◌, append_assoc, arith}
 use Rattle.std.specs.Prelude.{nat_le}
 use Rattle.std.specs.List.{list_all}
 use Rattle.std.proofs.lemmas.List.{drop_at}
@@ -17,7 +17,7 @@ use Rattle.rdb_access.specs.declared.types.ElementType.TheVariants as elements
 use Rattle.rdb_access.specs.declared.types.ValueType.{ValueType}
 use Rattle.rdb_access.specs.declared.types.ValueType.TheVariants as values
 use Rattle.rdb_access.specs.Types.{all_pairs, element_fits, value_fits, row_fits}
-use Rattle.rdb_access.specs.Encoding.{number_bytes, text_bytes, rect_bytes, leaf_bytes, leaves_bytes, element_bytes, vector_bytes, value_bytes, row_bytes}
+use Rattle.rdb_access.specs.Encoding.{number_bytes, text_bytes, rect_bytes, leaf_bytes, leaves_bytes, element_bytes, value_bytes, row_bytes}
 use Rattle.rdb_access.specs.Walk.{after_leaf, after_leaves, after_element, after_elements, after_value, after_values}
 use Rattle.rdb_access.proofs.Lengths.{length-number}
 use Rattle.rdb_access.proofs.Pairs.{first_of, second_of, drop_get}

@@ -2,7 +2,6 @@
 use Rattle.std.specs.Prelude.{ℕ, Bool, true, false, ◌&&◌, nat_le, List, [], ◌∷◌, length, map, slice_get}
 use Rattle.std.specs.List.{list_all}
 use Rattle.std.specs.Option.{option_map_or}
-use Rattle.rdb_base.specs.declared.value.Leaf.{Leaf}
 use Rattle.rdb_base.specs.declared.value.Element.{Element}
 use Rattle.rdb_base.specs.declared.value.Element.TheVariants as element
 use Rattle.rdb_base.specs.declared.value.Value.{Value}
