@@ -2,3 +2,4 @@ pub mod Lengths
 pub mod Pairs
 pub mod Walking
 pub mod Reading
+pub mod Sizes

@@ -1,5 +1,5 @@
 -- What is left of bytes behind the value of a type that they begin with.
-use Rattle.std.specs.Prelude.{ℕ, zero, suc, ◌+◌, ◌-◌, ℤ, pos, Bool, ◌&&◌, nat_lt, nat_le, if◌then◌else◌, List, [], ◌∷◌, length, take, drop, slice_index, slice_get, Option, Some}
+use Rattle.std.specs.Prelude.{◌≡◌, ℕ, zero, suc, ◌+◌, ◌-◌, ℤ, pos, Bool, ◌&&◌, nat_lt, nat_le, if◌then◌else◌, List, [], ◌∷◌, length, take, drop, slice_index, slice_get, Option, Some}
 use Rattle.byteorder.specs.Endian.{little_number, twos_complement}
 use Rattle.rdb_schema.specs.declared.schema.FieldType.{FieldType}
 use Rattle.rdb_schema.specs.declared.schema.FieldType.TheVariants as ty
@@ -84,3 +84,7 @@ text_by _ xs = []
 -- the words of the text in a field
 abbrev pub text_in : List ValueType → ℕ → List ℕ → List ℕ
 text_in types field xs = text_by (slice_get types field) (after_values (take field types) xs)
+
+-- each number is the offset at which the field of its place begins, whatever the bytes are
+abbrev pub AreOffsets : List ValueType → List ℕ → Type 0
+AreOffsets types offsets = (k offset : ℕ) → slice_get offsets k ≡ Some offset → (xs : List ℕ) → after_values (take k types) xs ≡ drop offset xs

@@ -7,6 +7,7 @@ ghost use Rattle.rdb_access.specs.Encoding.{row_bytes, vector_bytes};
 ghost use Rattle.rdb_access.specs.Answers.{IsEncodeAnswer};
 
 use crate::encode::{EncodeFault, append_row, checked_length};
+use crate::offsets::{Offsets, offsets_of};
 use crate::read::{as_text, items_in, number_in, text_in};
 use crate::types::{ElementType, ValueType, ValueTypes, types_of};
 use rdb_base::files::Bytes;
@@ -21,6 +22,7 @@ use std::marker::Model;
 pub struct Accessors {
     alloc: Global,
     types: ValueTypes,
+    offsets: Offsets,
 }
 
 impl Model for Accessors {
@@ -30,6 +32,10 @@ impl Model for Accessors {
     ghost Value = { List ValueType };
 
     ghost view = { λ a. a.types };
+
+    ghost use Rattle.rdb_access.specs.Walk.{AreOffsets};
+
+    ghost invariant = { λ a. AreOffsets a.types a.offsets };
 }
 
 impl Accessors {
@@ -38,9 +44,12 @@ impl Accessors {
     pub fn of(alloc: Global, schema: &Schema, class: u32) -> Result<Accessors, NoMemory>
         ensures { IfOk result (λ accessors. accessors ≡ types_of schema.now class) }
     {
+        let types = types_of(alloc, schema, class)?;
+        let offsets = offsets_of(alloc, &types)?;
         Ok(Accessors {
             alloc,
-            types: types_of(alloc, schema, class)?,
+            types,
+            offsets,
         })
     }
 
@@ -61,7 +70,7 @@ impl Accessors {
         ensures { (row : List Value) (number : ℤ) → IsTrue (row_fits self.now row) → bytes.now ≡ row_bytes self.now row
             → slice_get row field ≡ Some (Value.Leaf (Leaf.Num number)) → result ≡ number }
     {
-        number_in(&self.types, bytes, field as usize)
+        number_in(&self.types, &self.offsets, bytes, field as usize)
     }
 
     /// The text in a field, lent, where the bytes encode a row and the field is a text; of others some text. It takes no memory. The cost
@@ -70,7 +79,7 @@ impl Accessors {
         ensures { (row : List Value) (words : List ℕ) → IsTrue (row_fits self.now row) → bytes.now ≡ row_bytes self.now row
             → slice_get row field ≡ Some (Value.Leaf (Leaf.Text words)) → IsUtf8 words → result.now ≡ words }
     {
-        as_text(text_in(&self.types, bytes, field as usize))
+        as_text(text_in(&self.types, &self.offsets, bytes, field as usize))
     }
 
     /// The bytes of the vector in a field, lent: how many elements there are, in one byte, and their encodings. That is so where the bytes
@@ -81,6 +90,6 @@ impl Accessors {
             → slice_get self.now field ≡ Some (ValueType.Vector of) → slice_get row field ≡ Some (Value.List elements)
             → result.now ≡ vector_bytes of elements }
     {
-        items_in(&self.types, bytes, field as usize)
+        items_in(&self.types, &self.offsets, bytes, field as usize)
     }
 }

@@ -3,6 +3,7 @@
 
 pub mod accessors;
 pub mod encode;
+mod offsets;
 mod read;
 #[cfg(test)]
 mod tests;

@@ -1,9 +1,10 @@
 //! Reads of one field: the steps to it, and its value. It reads bytes, takes no memory, and lends what stands there.
 
 ghost use Rattle.std.specs.Prelude.{◌≡◌, take};
-ghost use Rattle.rdb_access.specs.Walk.{number_from, number_in, text_from, text_in, items_in, after_values, before};
+ghost use Rattle.rdb_access.specs.Walk.{number_from, number_in, text_from, text_in, items_in, after_values, before, AreOffsets};
 ghost use Rattle.std.specs.Str.{IsUtf8};
 
+use crate::offsets::Offsets;
 use crate::types::{ValueType, ValueTypes};
 use crate::walk::{after, after_value, after_values, first_byte};
 use byteorder::{ByteOrder, LittleEndian};
@@ -23,16 +24,21 @@ fn number_from(bytes: &[u8], width: u8, signed: bool) -> i128
     }
 }
 
-/// What is left of a row's bytes from a field on.
-fn from_field<'a>(types: &ValueTypes, bytes: &'a [u8], field: usize) -> &'a [u8]
+/// What is left of a row's bytes from a field on: by its offset where it has one, else by steps over the fields before it.
+fn from_field<'a>(types: &ValueTypes, offsets: &Offsets, bytes: &'a [u8], field: usize) -> &'a [u8]
+    requires { AreOffsets types.now offsets.now }
     ensures { result.now ≡ after_values (take field types.now) bytes.now }
 {
+    if field < offsets.len() {
+        return after(bytes, *offsets.at(field));
+    }
     let types = types.as_slice();
     after_values(&types[..field.min(types.len())], bytes)
 }
 
 /// The number in a field; 0 where it is no number's.
-pub(crate) fn number_in(types: &ValueTypes, bytes: &[u8], field: usize) -> i128
+pub(crate) fn number_in(types: &ValueTypes, offsets: &Offsets, bytes: &[u8], field: usize) -> i128
+    requires { AreOffsets types.now offsets.now }
     ensures { result ≡ number_in types.now field bytes.now }
 {
     match types.as_slice().get(field) {
@@ -43,7 +49,7 @@ pub(crate) fn number_in(types: &ValueTypes, bytes: &[u8], field: usize) -> i128
                     signed,
                 },
             ),
-        ) => number_from(from_field(types, bytes, field), *width, *signed),
+        ) => number_from(from_field(types, offsets, bytes, field), *width, *signed),
         _ => 0,
     }
 }
@@ -56,12 +62,18 @@ fn before<'a>(bytes: &'a [u8], rest: &[u8]) -> &'a [u8]
 }
 
 /// The bytes of the vector in a field; none where it is no vector's.
-pub(crate) fn items_in<'a>(types: &ValueTypes, bytes: &'a [u8], field: usize) -> &'a [u8]
+pub(crate) fn items_in<'a>(
+    types: &ValueTypes,
+    offsets: &Offsets,
+    bytes: &'a [u8],
+    field: usize,
+) -> &'a [u8]
+    requires { AreOffsets types.now offsets.now }
     ensures { result.now ≡ items_in types.now field bytes.now }
 {
     match types.as_slice().get(field) {
         Some(ty @ ValueType::Vector(_)) => {
-            let there = from_field(types, bytes, field);
+            let there = from_field(types, offsets, bytes, field);
             before(there, after_value(ty, there))
         }
         _ => &[],
@@ -76,11 +88,19 @@ fn text_from(bytes: &[u8]) -> &[u8]
 }
 
 /// The words of the text in a field; none where it is no text's.
-pub(crate) fn text_in<'a>(types: &ValueTypes, bytes: &'a [u8], field: usize) -> &'a [u8]
+pub(crate) fn text_in<'a>(
+    types: &ValueTypes,
+    offsets: &Offsets,
+    bytes: &'a [u8],
+    field: usize,
+) -> &'a [u8]
+    requires { AreOffsets types.now offsets.now }
     ensures { result.now ≡ text_in types.now field bytes.now }
 {
     match types.as_slice().get(field) {
-        Some(ValueType::Leaf(FieldType::Str)) => text_from(from_field(types, bytes, field)),
+        Some(ValueType::Leaf(FieldType::Str)) => text_from(from_field(
+            types, offsets, bytes, field,
+        )),
         _ => &[],
     }
 }
