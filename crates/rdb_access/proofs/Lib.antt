@@ -1,0 +1,5 @@
+pub mod Lengths
+pub mod Pairs
+pub mod Walking
+pub mod Reading
+pub mod Sizes

@@ -1,0 +1,4 @@
+pub mod Types
+pub mod Encoding
+pub mod Answers
+pub mod Walk
