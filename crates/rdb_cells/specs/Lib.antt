@@ -1,0 +1,4 @@
+pub mod Images
+pub mod Records
+pub mod References
+pub mod Words

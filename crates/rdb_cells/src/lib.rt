@@ -1,0 +1,18 @@
+//! The cells of a region as all layers above read and write them: plans, undo records, and what a reader sees while work
+//! is unfinished. It touches cells only through the traits `Cells` and `Region`.
+#![tactic(auto)]
+
+mod cells;
+mod kind;
+mod log;
+mod overlay;
+mod pairs;
+mod plan;
+mod reference;
+mod undo;
+
+pub use cells::{Cells, Region};
+pub use kind::{Kind, high, kind_of, wide};
+pub use log::{log_write, take_back};
+pub use overlay::Overlay;
+pub use pairs::{Pair, Pairs};
