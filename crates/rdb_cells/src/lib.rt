@@ -5,14 +5,18 @@
 mod cells;
 mod kind;
 mod log;
+mod memory;
 mod overlay;
 mod pairs;
 mod plan;
 mod reference;
+#[cfg(test)]
+mod tests;
 mod undo;
 
 pub use cells::{Cells, Region};
 pub use kind::{Kind, high, kind_of, wide};
 pub use log::{log_write, take_back};
+pub use memory::MemoryCells;
 pub use overlay::Overlay;
 pub use pairs::{Pair, Pairs};

@@ -1,5 +1,5 @@
 //! Cells as they will be once a plan is written, while the plan is made. It writes to the plan alone.
-ghost use Rattle.std.specs.Prelude.{◌≡◌, ◌<◌, ℕ, [], length, false, Some};
+ghost use Rattle.std.specs.Prelude.{◌≡◌, ◌<◌, ℕ, [], length, false, Some, IsTrue};
 ghost use Rattle.rdb_cells.specs.Images.{IsCell, IsFree, IsNextFree, Writes};
 ghost use Rattle.rdb_cells.specs.Records.{names, planned, with_put};
 
@@ -66,6 +66,15 @@ impl<C: Cells> Overlay<C> {
         ensures reading { Writes (planned self.old.plan.pairs (C.image self.old.cells)) (planned self.new.plan.pairs (C.image self.new.cells)) at.number cell }
     {
         self.plan.put(Pair { at, cell });
+    }
+
+    /// Returns whether the class has a free cell that this plan hasn't taken yet. The cost is that of one search for a free
+    /// cell.
+    pub fn can_take(&self) -> bool
+        ensures yes { IsTrue result → (n : ℕ) × (self.now.taken.number < n) × IsFree (C.image self.now.cells) (C.class_of self.now.cells) self.now.class n }
+        ensures no { result ≡ false → (n : ℕ) → self.now.taken.number < n → ¬ IsFree (C.image self.now.cells) (C.class_of self.now.cells) self.now.class n }
+    {
+        self.cells.free_after(self.class, self.taken).is_some()
     }
 
     /// Takes the class's lowest free cell that this plan hasn't taken yet. Whoever takes a cell then plans what it will
