@@ -78,3 +78,13 @@ pub record TakesBack (before after : Record) (image_before image_after : Image) 
   pub shorter : before ≡ record after { pairs = after.pairs ++ newest ∷ [] }
   pub written : Writes image_before image_after newest.at.number newest.cell
   pub settled : KeepsSettled before.pairs after.pairs image_before image_after newest.at.number
+
+-- no two of the records have a pair of one cell
+abbrev pub AreApart : List (List Pair) → Type 0
+AreApart [] = Unit {0}
+AreApart (r ∷ rs) = ((n : ℕ) → names r n ≡ true → NoneNames rs n) × AreApart rs
+
+-- what the first record that names the cell gives it
+abbrev pub first_content : List (List Pair) → ℕ → Option Cell
+first_content [] n = None
+first_content (r ∷ rs) n = first_of (content r n) (first_content rs n)

@@ -4,6 +4,7 @@
 
 mod cells;
 mod kind;
+mod laws;
 mod log;
 mod memory;
 mod overlay;
@@ -16,6 +17,7 @@ mod undo;
 
 pub use cells::{Cells, Region};
 pub use kind::{Kind, high, kind_of, wide};
+pub use laws::records_go_back_in_any_order;
 pub use log::{log_write, take_back};
 pub use memory::MemoryCells;
 pub use overlay::Overlay;
