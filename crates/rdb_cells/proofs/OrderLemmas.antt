@@ -23,30 +23,30 @@ only_one (q ∷ qs) r n zero image apart lt e named =
     taken_back-named q (settled qs image) image n (subst (λ (s : List Pair). names s n ≡ true) (sym e) named)
     ∙ ap (λ (s : List Pair). taken_back s image n) e
 only_one (q ∷ qs) r n (suc k) image apart lt e named = elim (true_or_false (names q n)) [
-    | inl both ↦
-        let none = apart.0 n both in
-        let some = member_names qs r n k (omega arith) e named in
-        cc (none, some)
-    | inr off ↦ taken_back-other q (settled qs image) n off ∙ only_one qs r n k image apart.1 (omega arith) e named
-  ]
+  | inl both ↦
+      let none = apart.0 n both in
+      let some = member_names qs r n k (omega arith) e named in
+      cc (none, some)
+  | inr off ↦ taken_back-other q (settled qs image) n off ∙ only_one qs r n k image apart.1 (omega arith) e named
+]
 
 -- in any order, the first record that names the cell sets it
 first_one : (ss : List (List Pair)) (n : ℕ) (image : Image) → list_any (λ q. names q n) ss ≡ true → (s : List Pair) × Contains ss s × (names s n ≡ true) × (settled ss image n ≡ taken_back s image n)
 first_one [] n image e = cc
 first_one (q ∷ qs) n image e = elim (true_or_false (names q n)) [
-    | inl on ↦ (q, (0, omega arith, refl), on, taken_back-named q (settled qs image) image n on)
-    | inr off ↦
-        let t = first_one qs n image (sym (ap (λ (b : Bool). b || list_any (λ (s : List Pair). names s n) qs) off) ∙ e) in
-        (t.0, (suc t.1.0, omega (arith, t.1.1), t.1.2), t.2, taken_back-other q (settled qs image) n off ∙ t.3)
-  ]
+  | inl on ↦ (q, (0, omega arith, refl), on, taken_back-named q (settled qs image) image n on)
+  | inr off ↦
+      let t = first_one qs n image (sym (ap (λ (b : Bool). b || list_any (λ (s : List Pair). names s n) qs) off) ∙ e) in
+      (t.0, (suc t.1.0, omega (arith, t.1.1), t.1.2), t.2, taken_back-other q (settled qs image) n off ∙ t.3)
+]
 
 pub order_free : (rs ss : List (List Pair)) (image : Image) → AreApart rs → IsPermutation rs ss → SameImage (settled rs image) (settled ss image)
 order_free rs ss image apart perm n = elim (true_or_false (list_any (λ (q : List Pair). names q n) ss)) [
-    | inl on ↦
-        let t = first_one ss n image on in
-        let there = Contains-permutation ss rs t.0 (IsPermutation-sym rs ss perm) t.1 in
-        only_one rs t.0 n there.0 image apart there.1 there.2 t.2 ∙ sym t.3
-    | inr off ↦
-        settled-other rs image n (list_any-IsPermutation (λ (q : List Pair). names q n) rs ss perm ∙ off)
-        ∙ sym (settled-other ss image n off)
-  ]
+  | inl on ↦
+      let t = first_one ss n image on in
+      let there = Contains-permutation ss rs t.0 (IsPermutation-sym rs ss perm) t.1 in
+      only_one rs t.0 n there.0 image apart there.1 there.2 t.2 ∙ sym t.3
+  | inr off ↦
+      settled-other rs image n (list_any-IsPermutation (λ (q : List Pair). names q n) rs ss perm ∙ off)
+      ∙ sym (settled-other ss image n off)
+]

@@ -1,5 +1,5 @@
 -- What a plan's list of pairs says of each cell.
-use Rattle.std.proofs.Common.{◌≡◌, ◌≢◌, ◌||◌, ◌==◌, ◌<◌, ◌+◌, zero, suc, ℕ, List, [], ◌∷◌, ◌++◌, length, get_or, set, take, drop, map, Option, Some, None, Bool, true, false, refl, sym, ap, ◌∙◌, arith, cond, inl, inr, subst, eq-eqb}
+use Rattle.std.proofs.Common.{◌≡◌, ◌≢◌, ◌||◌, ◌==◌, ◌<◌, ◌+◌, zero, suc, ℕ, List, [], ◌∷◌, ◌++◌, length, get_or, set, take, drop, map, Option, Some, Bool, true, false, refl, sym, ap, ◌∙◌, arith, cond, inl, inr, eq-eqb}
 use Rattle.std.proofs.lemmas.Bool.{ne_eqb}
 use Rattle.std.proofs.lemmas.List.Edits.{map_over_more}
 use Rattle.std.proofs.Permutation.{which}
@@ -7,7 +7,7 @@ use Rattle.std.specs.List.{find}
 use Rattle.std.specs.Option.{option_map}
 use Rattle.rdb_pages.specs.declared.cell.Cell.{Cell}
 use Rattle.rdb_cells.specs.declared.pairs.Pair.{Pair}
-use Rattle.rdb_cells.specs.Images.{Image, SameImage, Writes}
+use Rattle.rdb_cells.specs.Images.{Image, Writes}
 use Rattle.rdb_cells.specs.Records.{names, content, with_content, replaced, with_put, first_of, planned}
 
 element : (ys : List Pair) (i : ℕ) (d : Pair) → i < length ys → get_or ys i d ≡ get_or ys i (get_or ys i d)

@@ -1,12 +1,14 @@
 -- What taking back leaves of an image, cell by cell.
-use Rattle.std.proofs.Common.{◌≡◌, ◌≢◌, ◌||◌, ◌==◌, ℕ, List, [], ◌∷◌, ◌++◌, Option, Some, None, Bool, true, false, All, refl, sym, ap, ◌∙◌, arith, cond, inl, inr, subst, eq-eqb, ◌⊎◌}
+use Rattle.std.proofs.Common.{◌<◌, ◌+◌, zero, suc, length, map, drop, get_or, add-one, drop-cons, ◌≡◌, ◌≢◌, ◌||◌, ◌==◌, ℕ, List, [], ◌∷◌, ◌++◌, Option, Some, None, Bool, true, false, refl, sym, ap, ◌∙◌, arith, cond, inl, inr, subst, eq-eqb, ◌⊎◌}
 use Rattle.std.proofs.lemmas.Bool.{ne_eqb}
+use Rattle.std.proofs.lemmas.List.{length-map}
 use Rattle.std.proofs.Permutation.{which}
-use Rattle.std.specs.List.{list_any}
+use Rattle.std.specs.List.{list_any, find}
+use Rattle.std.specs.Option.{option_map}
 use Rattle.rdb_pages.specs.declared.cell.Cell.{Cell}
 use Rattle.rdb_cells.specs.declared.pairs.Pair.{Pair}
-use Rattle.rdb_cells.specs.Images.{Image, SameImage, Writes}
-use Rattle.rdb_cells.specs.Records.{names, with_pair, taken_back, settled, NoneNames, KeepsSettled, Record, Logs}
+use Rattle.rdb_cells.specs.Images.{Image, Writes}
+use Rattle.rdb_cells.specs.Records.{names, with_pair, taken_back, settled, NoneNames, KeepsSettled, Record, Logs, content, first_of, first_content}
 
 neither : (a b : Bool) → (a || b) ≡ false → (a ≡ false) × (b ≡ false)
 neither true b e = cc
@@ -129,3 +131,51 @@ back_keeps ps p before after w =
     taken_back-same ps rest_after (with_pair p rest_before) n (e ∙ sym (with_pair-other p rest_before n ne))
     ∙ sym (taken_back-append ps (p ∷ []) rest_before n))
     w.elsewhere
+
+-- a look-up in a record, or behind it
+taken_back_reads : (ps : List Pair) (image : Image) (n : ℕ) → taken_back ps image n ≡ first_of (content ps n) (image n)
+taken_back_reads [] image n = refl
+taken_back_reads (p ∷ ps) image n =
+    elim (p.at.number == n) as (λ (b : Bool). cond b (Some p.cell) (taken_back ps image n) ≡ first_of (option_map (λ (q : Pair). q.cell) (cond b (Some p) (find (λ (q : Pair). q.at.number == n) ps))) (image n)) [
+      | true ↦ refl
+      | false ↦ taken_back_reads ps image n
+    ]
+
+first_of_first : (a b c : Option Cell) → first_of (first_of a b) c ≡ first_of a (first_of b c)
+first_of_first None b c = refl
+first_of_first (Some x) b c = refl
+
+pub settled_reads : (rs : List (List Pair)) (image : Image) (n : ℕ) → settled rs image n ≡ first_of (first_content rs n) (image n)
+settled_reads [] image n = refl
+settled_reads (r ∷ rs) image n =
+    taken_back_reads r (settled rs image) n
+    ∙ ap (first_of (content r n)) (settled_reads rs image n)
+    ∙ sym (first_of_first (content r n) (first_content rs n) (image n))
+
+pub settled_some : (rs : List (List Pair)) (image : Image) (n : ℕ) (cell : Cell) → Some cell ≡ first_content rs n → settled rs image n ≡ Some cell
+settled_some rs image n cell e = settled_reads rs image n ∙ ap (λ (o : Option Cell). first_of o (image n)) (sym e)
+
+pub settled_none : (rs : List (List Pair)) (image : Image) (n : ℕ) → None ≡ first_content rs n → settled rs image n ≡ image n
+settled_none rs image n e = settled_reads rs image n ∙ ap (λ (o : Option Cell). first_of o (image n)) (sym e)
+
+-- the records from one place on
+first_step : (xs : List (List Pair)) (i n : ℕ) (r : List Pair) → i < length xs → r ≡ get_or xs i r → first_content (drop i xs) n ≡ first_of (content r n) (first_content (drop (i + 1) xs) n)
+first_step xs i n r h e =
+    rw (add-one, drop-cons xs i r) (ap (λ (q : List Pair). first_of (content q n) (first_content (drop (suc i) xs) n)) (sym e))
+
+module _ {A : Type 0} (f : A → List Pair) where
+  item : (ys : List A) (i : ℕ) (d : A) → i < length ys → d ≡ get_or ys i d → f d ≡ get_or (map f ys) i (f d)
+  item [] i d h e = absurd (omega arith)
+  item (y ∷ ys) zero d h e = ap f e
+  item (y ∷ ys) (suc i) d h e = item ys i d (omega arith) e
+
+  pub logged_step : (ys : List A) (i n : ℕ) (d : A) → i < length ys → d ≡ get_or ys i d → first_content (map f ys) n ≡ first_content (drop i (map f ys)) n → first_content (map f ys) n ≡ first_of (content (f d) n) (first_content (drop (i + 1) (map f ys)) n)
+  logged_step ys i n d h e inv = inv ∙ first_step (map f ys) i n (f d) (rw length-map h) (item ys i d h e)
+
+  pub logged_some : (ys : List A) (i n : ℕ) (d : A) (cell : Cell) → i < length ys → d ≡ get_or ys i d → first_content (map f ys) n ≡ first_content (drop i (map f ys)) n → Some cell ≡ content (f d) n → Some cell ≡ first_content (map f ys) n
+  logged_some ys i n d cell h e inv is =
+      ap (λ (o : Option Cell). first_of o (first_content (drop (i + 1) (map f ys)) n)) is ∙ sym (logged_step ys i n d h e inv)
+
+  pub logged_none : (ys : List A) (i n : ℕ) (d : A) → i < length ys → d ≡ get_or ys i d → first_content (map f ys) n ≡ first_content (drop i (map f ys)) n → content (f d) n ≡ None → first_content (map f ys) n ≡ first_content (drop (i + 1) (map f ys)) n
+  logged_none ys i n d h e inv is =
+      logged_step ys i n d h e inv ∙ ap (λ (o : Option Cell). first_of o (first_content (drop (i + 1) (map f ys)) n)) is

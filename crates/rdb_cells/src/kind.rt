@@ -1,5 +1,6 @@
 //! What the words of a cell say of it: its kind, the rest of its first word, and numbers of two words.
-ghost use Rattle.std.specs.Prelude.{◌≡◌, ◌<◌, MatchOption};
+ghost use Rattle.std.specs.Prelude.{◌≡◌, ◌<◌, MatchOption, IsTrue, ◌↔◌};
+ghost use Rattle.rdb_pages.specs.Pages.{zero_cell};
 ghost use Rattle.rdb_cells.specs.Words.{IsKind, kind_number, high_of, wide_of};
 
 use rdb_pages::Cell;
@@ -19,6 +20,13 @@ pub enum Kind {
     PatriciaEntry,
     ClassHead,
     IndexHead,
+}
+
+/// Returns whether the cell is all zero, and so free.
+pub fn is_zero(cell: &Cell) -> bool
+    ensures { IsTrue result ↔ (cell.now ≡ zero_cell) }
+{
+    *cell == Cell::ZERO
 }
 
 /// Returns the cell's kind, and `None` where its number is that of no kind. The number is the lowest 8 bits of the first

@@ -11,12 +11,13 @@ mod overlay;
 mod pairs;
 mod plan;
 mod reference;
+mod settled;
 #[cfg(test)]
 mod tests;
 mod undo;
 
 pub use cells::{Cells, Region};
-pub use kind::{Kind, high, kind_of, wide};
+pub use kind::{Kind, high, is_zero, kind_of, wide};
 pub use laws::records_go_back_in_any_order;
 pub use log::{log_write, take_back};
 pub use memory::MemoryCells;

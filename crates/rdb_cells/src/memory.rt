@@ -6,6 +6,7 @@ ghost use Rattle.rdb_cells.specs.Images.{IsCell, IsFree};
 ghost use Rattle.rdb_cells.specs.Memory.{memory_image, memory_class};
 
 use crate::cells::{Cells, Region};
+use crate::kind::is_zero;
 use crate::reference::HEADS;
 use rdb_base::list::NoMemory;
 use rdb_pages::{Cell, CellRef, PAGE_CELLS};
@@ -65,12 +66,6 @@ impl MemoryCells {
             None => false,
         }
     }
-}
-
-fn is_zero(cell: &Cell) -> bool
-    ensures { IsTrue result ↔ (cell.now ≡ zero_cell) }
-{
-    *cell == Cell::ZERO
 }
 
 impl Cells for MemoryCells {

@@ -97,6 +97,13 @@ impl Pairs {
         self.pairs.last()
     }
 
+    /// Lends the pairs, oldest first.
+    pub fn as_slice(&self) -> &[Pair]
+        ensures { result.now ≡ self.now.pairs }
+    {
+        self.pairs.as_slice()
+    }
+
     /// Returns whether the cell has a pair. The cost grows with the number of pairs.
     pub fn has(&self, at: CellRef) -> bool
         ensures { result ≡ names self.now.pairs at.number }

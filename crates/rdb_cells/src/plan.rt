@@ -52,6 +52,13 @@ impl Plan {
         self.pairs.room()
     }
 
+    /// Lends the pairs, in the order in which the cells came.
+    pub fn as_slice(&self) -> &[Pair]
+        ensures { result.now ≡ self.now.pairs }
+    {
+        self.pairs.as_slice()
+    }
+
     /// Returns whether the plan has the cell. The cost grows with the plan.
     pub fn has(&self, at: CellRef) -> bool
         ensures { result ≡ names self.now.pairs at.number }

@@ -1,4 +1,4 @@
-use Rattle.std.proofs.Common.{◌≡◌, sym, subst, ap, List}
+use Rattle.std.proofs.Common.{sym, subst, ap, List}
 use Rattle.rdb_cells.specs.declared.pairs.Pair.{Pair}
 use Rattle.rdb_cells.specs.Records.{Record, KeepsSettled}
 use Rattle.rdb_cells.proofs.SettledLemmas.{back_keeps}
