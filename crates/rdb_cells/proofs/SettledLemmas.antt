@@ -1,5 +1,5 @@
 -- What taking back leaves of an image, cell by cell.
-use Rattle.std.proofs.Common.{◌<◌, ◌+◌, zero, suc, length, map, drop, get_or, add-one, drop-cons, ◌≡◌, ◌≢◌, ◌||◌, ◌==◌, ℕ, List, [], ◌∷◌, ◌++◌, Option, Some, None, Bool, true, false, refl, sym, ap, ◌∙◌, arith, cond, inl, inr, subst, eq-eqb, ◌⊎◌}
+use Rattle.std.proofs.Common.{IsSome, rules, ◌<◌, ◌+◌, zero, suc, length, map, drop, get_or, add-one, drop-cons, ◌≡◌, ◌≢◌, ◌||◌, ◌==◌, ℕ, List, [], ◌∷◌, ◌++◌, Option, Some, None, Bool, true, false, refl, sym, ap, ◌∙◌, arith, cond, inl, inr, subst, eq-eqb, ◌⊎◌}
 use Rattle.std.proofs.lemmas.Bool.{ne_eqb}
 use Rattle.std.proofs.lemmas.List.{length-map}
 use Rattle.std.proofs.Permutation.{which}
@@ -7,7 +7,7 @@ use Rattle.std.specs.List.{list_any, find}
 use Rattle.std.specs.Option.{option_map}
 use Rattle.rdb_pages.specs.declared.cell.Cell.{Cell}
 use Rattle.rdb_cells.specs.declared.pairs.Pair.{Pair}
-use Rattle.rdb_cells.specs.Images.{Image, Writes}
+use Rattle.rdb_cells.specs.Images.{IsCell, Image, Writes}
 use Rattle.rdb_cells.specs.Records.{names, with_pair, taken_back, settled, NoneNames, KeepsSettled, Record, Logs, content, first_of, first_content}
 
 neither : (a b : Bool) → (a || b) ≡ false → (a ≡ false) × (b ≡ false)
@@ -179,3 +179,10 @@ module _ {A : Type 0} (f : A → List Pair) where
   pub logged_none : (ys : List A) (i n : ℕ) (d : A) → i < length ys → d ≡ get_or ys i d → first_content (map f ys) n ≡ first_content (drop i (map f ys)) n → content (f d) n ≡ None → first_content (map f ys) n ≡ first_content (drop (i + 1) (map f ys)) n
   logged_none ys i n d h e inv is =
       logged_step ys i n d h e inv ∙ ap (λ (o : Option Cell). first_of o (first_content (drop (i + 1) (map f ys)) n)) is
+
+-- a cell stays one when records are taken back
+pub settled_cell : (rs : List (List Pair)) (image : Image) (n : ℕ) → IsCell image n → IsCell (settled rs image) n
+settled_cell rs image n there =
+    let P : Option Cell → Type 0 = λ o. IsSome o in
+    subst P (sym (settled_reads rs image n))
+    (elim (first_content rs n) as (λ (o : Option Cell). P (first_of o (image n))) [ None ↦ there | Some cell ↦ search rules ])

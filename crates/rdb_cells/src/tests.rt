@@ -9,6 +9,7 @@ use crate::overlay::Overlay;
 use crate::pairs::Pair;
 use crate::plan::{MAX_PLAN, Plan};
 use crate::reference::{class_head, index_head};
+use crate::settled::Settled;
 use crate::undo::Undo;
 use rdb_pages::{Cell, CellRef};
 use std::process::Abort;
@@ -44,6 +45,12 @@ fn back(rt: &impl Abort, cells: &mut MemoryCells, undo: &mut Undo) {
     let pair = newest(rt, undo);
     assert!(rt; cells.holds(pair.at));
     take_back(cells, undo);
+}
+
+fn settled_at(rt: &impl Abort, cells: &MemoryCells, records: &[&Undo], number: u32) -> Cell {
+    let at = CellRef { number };
+    assert!(rt; cells.holds(at), "no cell {number}");
+    Settled::over(cells, records).settled(at)
 }
 
 #[test]
@@ -106,6 +113,10 @@ fn records_of_two_classes_go_back_in_either_order(rt: HostRuntime) -> Result<(),
         write(&rt, &mut cells, &mut first, 1, 10);
         write(&rt, &mut cells, &mut second, 65, 20);
         write(&rt, &mut cells, &mut first, 64, 11);
+        for number in [1, 64, 65] {
+            let settled = settled_at(&rt, &cells, [&first, &second].as_slice(), number);
+            assert_eq!(rt; settled, Cell::ZERO, "cell {number}");
+        }
         if first_goes_first {
             back(&rt, &mut cells, &mut first);
             back(&rt, &mut cells, &mut first);
