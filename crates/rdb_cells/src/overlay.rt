@@ -1,0 +1,95 @@
+//! Cells as they will be once a plan is written, while the plan is made. It writes to the plan alone.
+ghost use Rattle.std.specs.Prelude.{◌≡◌, ◌<◌, ℕ, [], length, false, Some, IsTrue};
+ghost use Rattle.rdb_cells.specs.Images.{IsCell, IsFree, IsNextFree, Writes};
+ghost use Rattle.rdb_cells.specs.Records.{names, planned, with_put};
+
+use crate::cells::Cells;
+use crate::pairs::Pair;
+use crate::plan::Plan;
+use crate::reference::NONE;
+use rdb_pages::{Cell, CellRef};
+
+/// Cells with a plan over them, for the work on one class. What is read is what the plan says of a cell, or what the cell
+/// holds where it says nothing. Nothing here takes memory.
+pub struct Overlay<C> {
+    cells: C,
+    plan: Plan,
+    class: u32,
+    taken: CellRef,
+}
+
+impl<C: Cells> Overlay<C> {
+    /// Lays an empty plan over the cells.
+    pub fn over(cells: C, plan: Plan, class: u32) -> Overlay<C>
+        requires { plan.pairs ≡ [] }
+        ensures { result ≡ record { cells = cells; plan = plan; class = class; taken = record { number = 0 } } }
+    {
+        Overlay {
+            cells,
+            plan,
+            class,
+            taken: NONE,
+        }
+    }
+
+    /// Gives the plan back.
+    pub fn plan(self) -> Plan
+    where
+        C: Drop,
+        ensures { result ≡ self.plan }
+    {
+        let Overlay {
+            cells: _,
+            plan,
+            class: _,
+            taken: _,
+        } = self;
+        plan
+    }
+
+    /// Returns what the cell will hold. The cost is that of a look-up in the plan, and of one read.
+    pub fn planned(&self, at: CellRef) -> Cell
+        requires { IsCell (planned self.now.plan.pairs (C.image self.now.cells)) at.number }
+        ensures { planned self.now.plan.pairs (C.image self.now.cells) at.number ≡ Some result }
+    {
+        match self.plan.get(at) {
+            Some(cell) => cell,
+            None => self.cells.read(at),
+        }
+    }
+
+    /// Plans what the cell will hold, and nothing of any other. The cost is that of a look-up in the plan.
+    pub fn put(&mut self, at: CellRef, cell: Cell)
+        requires named { IsCell (C.image self.old.cells) at.number }
+        requires room { names self.old.plan.pairs at.number ≡ false → length self.old.plan.pairs < self.old.plan.room }
+        ensures plan { self.new ≡ record self.old { plan = record self.old.plan { pairs = with_put self.old.plan.pairs (record { at = at; cell = cell }) } } }
+        ensures reading { Writes (planned self.old.plan.pairs (C.image self.old.cells)) (planned self.new.plan.pairs (C.image self.new.cells)) at.number cell }
+    {
+        self.plan.put(Pair { at, cell });
+    }
+
+    /// Returns whether the class has a free cell that this plan hasn't taken yet. The cost is that of one search for a free
+    /// cell.
+    pub fn can_take(&self) -> bool
+        ensures yes { IsTrue result → (n : ℕ) × (self.now.taken.number < n) × IsFree (C.image self.now.cells) (C.class_of self.now.cells) self.now.class n }
+        ensures no { result ≡ false → (n : ℕ) → self.now.taken.number < n → ¬ IsFree (C.image self.now.cells) (C.class_of self.now.cells) self.now.class n }
+    {
+        self.cells.free_after(self.class, self.taken).is_some()
+    }
+
+    /// Takes the class's lowest free cell that this plan hasn't taken yet. Whoever takes a cell then plans what it will
+    /// hold. The cost is that of one search for a free cell.
+    pub fn take(&mut self) -> CellRef
+        requires { (n : ℕ) × (self.old.taken.number < n) × IsFree (C.image self.old.cells) (C.class_of self.old.cells) self.old.class n }
+        ensures lowest { IsNextFree (C.image self.old.cells) (C.class_of self.old.cells) self.old.class self.old.taken.number result.number }
+        ensures taken { self.new ≡ record self.old { taken = result } }
+    {
+        match self.cells.free_after(self.class, self.taken) {
+            Some(at) => {
+                self.taken = at;
+                at
+            }
+            None => unreachable!(),
+        }
+    }
+}

@@ -1,0 +1,204 @@
+//! What plans, undo records and overlays do over cells in memory.
+ghost use Rattle.std.specs.Prelude.{◌≡◌, ◌-◌, length, slice_get, Some};
+
+use crate::cells::{Cells, Region};
+use crate::kind::{Kind, high, kind_of, wide};
+use crate::log::{log_write, take_back};
+use crate::memory::MemoryCells;
+use crate::overlay::Overlay;
+use crate::pairs::Pair;
+use crate::plan::{MAX_PLAN, Plan};
+use crate::reference::{class_head, index_head};
+use crate::settled::Settled;
+use crate::undo::Undo;
+use rdb_pages::{Cell, CellRef};
+use std::process::Abort;
+use std::test::*;
+
+fn filled_with(word: u32) -> Cell {
+    Cell { words: [word; 16] }
+}
+
+fn read(rt: &impl Abort, cells: &MemoryCells, number: u32) -> Cell {
+    let at = CellRef { number };
+    assert!(rt; cells.holds(at), "no cell {number}");
+    cells.read(at)
+}
+
+fn write(rt: &impl Abort, cells: &mut MemoryCells, undo: &mut Undo, number: u32, word: u32) {
+    let at = CellRef { number };
+    assert!(rt; cells.holds(at), "no cell {number}");
+    assert!(rt; undo.len() < undo.room());
+    log_write(cells, undo, at, filled_with(word));
+}
+
+fn newest(rt: &impl Abort, undo: &Undo) -> Pair
+    ensures { slice_get undo.now.pairs (length undo.now.pairs - 1) ≡ Some result }
+{
+    match undo.last() {
+        Some(pair) => *pair,
+        None => panic!(rt; "the record is empty"),
+    }
+}
+
+fn back(rt: &impl Abort, cells: &mut MemoryCells, undo: &mut Undo) {
+    let pair = newest(rt, undo);
+    assert!(rt; cells.holds(pair.at));
+    take_back(cells, undo);
+}
+
+fn settled_at(rt: &impl Abort, cells: &MemoryCells, records: &[&Undo], number: u32) -> Cell {
+    let at = CellRef { number };
+    assert!(rt; cells.holds(at), "no cell {number}");
+    Settled::over(cells, records).settled(at)
+}
+
+#[test]
+fn head_cells_stand_past_the_pages(rt: HostRuntime) {
+    for (class, head) in [(0, 2_000_000), (1, 2_000_016), (63, 2_001_008)] {
+        assert!(rt; class < 64);
+        assert_eq!(rt; class_head(class).number, head);
+    }
+    for (class, index, head) in [(0, 0, 2_000_001), (1, 2, 2_000_019), (63, 7, 2_001_016)] {
+        assert!(rt; class < 64 && index < 15);
+        assert_eq!(rt; index_head(class, index).number, head);
+    }
+}
+
+#[test]
+fn the_first_word_says_the_kind(rt: HostRuntime) {
+    for (word, kind, rest) in [
+        (0, Some(Kind::Free), 0),
+        (258, Some(Kind::Version), 1),
+        (0xffff_ff0b, Some(Kind::IndexHead), 0x00ff_ffff),
+        (12, None, 0),
+    ] {
+        let cell = filled_with(word);
+        assert_eq!(rt; kind_of(&cell), kind, "word {word}");
+        assert_eq!(rt; high(&cell), rest, "word {word}");
+    }
+    let mut cell = Cell::ZERO;
+    cell.words[2] = 5;
+    cell.words[3] = 1;
+    assert_eq!(rt; wide(&cell, 2), 4_294_967_301);
+}
+
+#[test]
+fn the_first_write_of_a_cell_is_logged(rt: HostRuntime) -> Result<(), Fail> {
+    let mut cells = MemoryCells::new(rt.alloc(), &[3], 16)?;
+    let mut undo = Undo::reserve(rt.alloc(), 3)?;
+    write(&rt, &mut cells, &mut undo, 5, 50);
+    write(&rt, &mut cells, &mut undo, 5, 51);
+    write(&rt, &mut cells, &mut undo, 2_000_001, 60);
+    assert_eq!(rt; undo.len(), 2);
+    assert_eq!(rt; undo.get(CellRef { number: 5 }), Some(Cell::ZERO));
+    assert_eq!(rt; undo.get(CellRef { number: 6 }), None);
+    assert!(rt; undo.has(CellRef { number: 2_000_001 }));
+    assert_eq!(rt; read(&rt, &cells, 5), filled_with(51));
+    back(&rt, &mut cells, &mut undo);
+    assert_eq!(rt; undo.len(), 1);
+    assert_eq!(rt; read(&rt, &cells, 2_000_001), Cell::ZERO);
+    assert_eq!(rt; read(&rt, &cells, 5), filled_with(51));
+    back(&rt, &mut cells, &mut undo);
+    assert_eq!(rt; read(&rt, &cells, 5), Cell::ZERO);
+    Ok(())
+}
+
+#[test]
+fn records_of_two_classes_go_back_in_either_order(rt: HostRuntime) -> Result<(), Fail> {
+    for first_goes_first in [true, false] {
+        let mut cells = MemoryCells::new(rt.alloc(), &[0, 1], 0)?;
+        let mut first = Undo::reserve(rt.alloc(), 2)?;
+        let mut second = Undo::reserve(rt.alloc(), 2)?;
+        write(&rt, &mut cells, &mut first, 1, 10);
+        write(&rt, &mut cells, &mut second, 65, 20);
+        write(&rt, &mut cells, &mut first, 64, 11);
+        for number in [1, 64, 65] {
+            let settled = settled_at(&rt, &cells, [&first, &second].as_slice(), number);
+            assert_eq!(rt; settled, Cell::ZERO, "cell {number}");
+        }
+        if first_goes_first {
+            back(&rt, &mut cells, &mut first);
+            back(&rt, &mut cells, &mut first);
+            assert_eq!(rt; read(&rt, &cells, 65), filled_with(20));
+            back(&rt, &mut cells, &mut second);
+        } else {
+            back(&rt, &mut cells, &mut second);
+            assert_eq!(rt; read(&rt, &cells, 1), filled_with(10));
+            back(&rt, &mut cells, &mut first);
+            back(&rt, &mut cells, &mut first);
+        }
+        for number in [1, 64, 65] {
+            assert_eq!(rt; read(&rt, &cells, number), Cell::ZERO, "cell {number}");
+        }
+    }
+    Ok(())
+}
+
+#[test]
+fn a_plan_holds_1024_cells(rt: HostRuntime) -> Result<(), Fail> {
+    let mut plan = Plan::reserve(rt.alloc(), MAX_PLAN)?;
+    for number in 1..=1024u32 {
+        assert!(rt; plan.len() < plan.room());
+        plan.put(Pair {
+            at: CellRef { number },
+            cell: filled_with(number),
+        });
+    }
+    assert_eq!(rt; (plan.len(), plan.room()), (1024, 1024));
+    assert_eq!(rt; plan.get(CellRef { number: 1000 }), Some(filled_with(1000)));
+    assert!(rt; plan.has(CellRef { number: 1024 }) && !plan.has(CellRef { number: 1025 }));
+    assert_eq!(rt; plan.last().map(|pair| pair.at.number), Some(1024));
+    assert!(rt; plan.len() > 0);
+    assert_eq!(rt; plan.pop().at.number, 1024);
+    assert_eq!(rt; plan.len(), 1023);
+    Ok(())
+}
+
+#[test]
+fn an_overlay_reads_through_its_plan(rt: HostRuntime) -> Result<(), Fail> {
+    let mut cells = MemoryCells::new(rt.alloc(), &[0, 1, 0], 0)?;
+    let used = CellRef { number: 1 };
+    assert!(rt; cells.holds(used));
+    cells.write(used, filled_with(7));
+    let plan = Plan::reserve(rt.alloc(), 4)?;
+    let mut overlay = Overlay::over(&cells, plan, 0);
+    assert!(rt; cells.holds(used));
+    assert_eq!(rt; overlay.planned(used), filled_with(7));
+    overlay.put(used, filled_with(8));
+    assert_eq!(rt; overlay.planned(used), filled_with(8));
+    for number in [2, 3, 4] {
+        assert!(rt; overlay.can_take());
+        assert_eq!(rt; overlay.take().number, number);
+    }
+    let plan = overlay.plan();
+    assert_eq!(rt; plan.get(used), Some(filled_with(8)));
+    assert_eq!(rt; read(&rt, &cells, 1), filled_with(7));
+    Ok(())
+}
+
+#[test]
+fn free_cells_are_those_of_the_class(rt: HostRuntime) -> Result<(), Fail> {
+    let mut cells = MemoryCells::new(rt.alloc(), &[0, 1, 0], 0)?;
+    let last = CellRef { number: 64 };
+    assert!(rt; cells.holds(last));
+    cells.write(last, filled_with(1));
+    for (class, above, next) in [
+        (0, 0, Some(1)),
+        (0, 63, Some(129)),
+        (1, 1, Some(65)),
+        (2, 0, None),
+        (0, 192, None),
+    ] {
+        let at = CellRef { number: above };
+        assert_eq!(rt;
+            (&cells).free_after(class, at).map(|r| r.number),
+            next,
+            "class {class} above {above}"
+        );
+    }
+    assert!(rt;
+        cells.in_class(1, CellRef { number: 128 }) && !cells.in_class(1, CellRef { number: 129 })
+    );
+    Ok(())
+}
