@@ -1,13 +1,13 @@
 -- What follows from how words end, status by status.
-use Rattle.std.proofs.Common.{◌≡◌, ℕ, lit<, ◌+◌, ◌<◌, ◌≤◌, ◌⊎◌, inl, inr, List, [], ◌∷◌, ◌++◌, length, Option, Some, None, refl, sym, ap, ◌∙◌, subst, arith}
+use Rattle.std.proofs.Common.{◌≡◌, ℕ, lit<, ◌<◌, ◌⊎◌, inl, inr, List, [], ◌∷◌, length, Option, Some, None, refl, sym, ap, ◌∙◌, subst, arith}
 use Rattle.std.specs.Prelude.{Contains, MatchOption, slice_get}
 use Rattle.std.proofs.Common.{Bor, get_or}
 use Rattle.rdb_runner.specs.declared.command_line.Settings.{Settings}
 use Rattle.rdb_runner.specs.CommandLine.{Word, Command, replay, IsCommandLine, texts}
-use Rattle.rdb_runner.specs.Command.{IsNoCommandLine, usage_line, job_of, SeesNothing, not_built_line, CommandOwes, CommandEnds, WordsOwe, WordsEnd, IsCutShort, AsksFor, AsksForOther, AsksInOrder}
+use Rattle.rdb_runner.specs.Command.{IsNoCommandLine, usage_line, job_of, SeesNothing, CommandOwes, CommandEnds, WordsEnd, IsCutShort, AsksFor, AsksForOther, AsksInOrder}
 use Rattle.rdb_runner.specs.Promise.{names_of, JobEnds, IsDone, IsUnreadable, IsNotBuilt, JobOwes, Shows, HasTooLong, ArePlain, AsksFirst}
 use Rattle.rdb_runner.specs.Reading.{Sight}
-use Rattle.rdb_runner.specs.Telling.{Ink, Tells, Writes, IsCutOff, IsSilent}
+use Rattle.rdb_runner.specs.Telling.{Ink, Tells, Writes, IsSilent}
 use Rattle.rdb_runner.proofs.CommandLineMeaning.{one_line}
 use Rattle.rdb_runner.proofs.JobLemmas.{told_within, plain_built}
 

@@ -1,16 +1,16 @@
 -- What follows from how a job ends, status by status.
-use Rattle.std.proofs.Common.{◌≡◌, ℕ, zero, suc, lit<, ◌+◌, ◌<◌, ◌≤◌, ◌⊎◌, inl, inr, List, [], ◌∷◌, ◌++◌, length, take, Option, Some, None, refl, sym, ap, ◌∙◌, subst, arith}
-use Rattle.std.specs.Prelude.{Contains, IfSome, slice_get, codes, true, false}
+use Rattle.std.proofs.Common.{◌≡◌, ℕ, zero, suc, lit<, ◌<◌, ◌≤◌, ◌⊎◌, inl, inr, List, [], ◌∷◌, ◌++◌, length, Option, Some, None, refl, sym, ap, ◌∙◌, subst, arith}
+use Rattle.std.specs.Prelude.{Contains, IfSome, slice_get, codes, true}
 use Rattle.std.proofs.lemmas.Bool.{false≢true}
-use Rattle.rdb_ddl.specs.Token.{Word, Name, lexeme_at}
+use Rattle.rdb_ddl.specs.Token.{Name, lexeme_at}
 use Rattle.rdb_runner.specs.declared.plain_client.PlainStep.{PlainStep}
 use Rattle.rdb_runner.specs.declared.reading.TheConstants.{FILE_LIMIT}
 use Rattle.rdb_runner.specs.PlainClient.{IsClientOf}
 use Rattle.rdb_runner.specs.PlainSchedule.{is_plain_schedule}
-use Rattle.rdb_runner.specs.PlainSchema.{IsSchemaText, BeginsWith, database_words, class_words}
-use Rattle.rdb_runner.specs.Promise.{names_of, AllRead, IsDone, IsUnreadable, IsNotBuilt, IsFirstOther, IsNoSchema, IsNoClient, JobOwes, JobEnds, Shows, IsInterrupted, HasTooLong, ArePlain, AsksFirst}
-use Rattle.rdb_runner.specs.Reading.{Sight, Asks, AreBytesOf, IsBytesOf, CannotRead}
-use Rattle.rdb_runner.specs.Telling.{Ink, Tells, Writes, IsCutOff, IsSilent}
+use Rattle.rdb_runner.specs.PlainSchema.{IsSchemaText}
+use Rattle.rdb_runner.specs.Promise.{names_of, AllRead, IsDone, IsUnreadable, IsNotBuilt, IsFirstOther, JobOwes, Shows, IsInterrupted, HasTooLong, ArePlain}
+use Rattle.rdb_runner.specs.Reading.{Sight, AreBytesOf, IsBytesOf}
+use Rattle.rdb_runner.specs.Telling.{Ink, Tells, Writes, IsSilent}
 
 -- what a job told
 abbrev pub JobTold : List (List ℕ) → Sight → Ink → ℕ → Type 0

@@ -1,11 +1,11 @@
 -- How far the reader of a plain client has come.
-use Rattle.std.proofs.Common.{◌≡◌, ◌≢◌, ℕ, ◌+◌, ◌<◌, ◌≤◌, List, [], ◌∷◌, ◌++◌, length, refl, sym, ap, ◌∙◌, subst, arith, append_assoc, length-append, flat_map}
-use Rattle.std.specs.Prelude.{codes, IsSomeAnd, Option}
+use Rattle.std.proofs.Common.{◌≡◌, ◌≢◌, ℕ, ◌+◌, ◌<◌, ◌≤◌, List, [], ◌∷◌, ◌++◌, length, refl, sym, ap, ◌∙◌, arith, append_assoc, length-append, flat_map}
+use Rattle.std.specs.Prelude.{codes}
 use Rattle.std.specs.List.{AllByRecursion}
 use Rattle.std.proofs.lemmas.List.{append-nil}
 use Rattle.std.proofs.lemmas.List.Concat.{flat_map-append}
 use Rattle.rdb_runner.specs.declared.plain_client.PlainStep.{PlainStep}
-use Rattle.rdb_runner.specs.PlainClient.{IsStep, line_of, client_text, IsClientOf}
+use Rattle.rdb_runner.specs.PlainClient.{IsStep, line_of, IsClientOf}
 
 -- the last line
 abbrev pub last : List ℕ

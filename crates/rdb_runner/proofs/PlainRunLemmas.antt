@@ -1,7 +1,6 @@
 -- What one more operation adds to a run on the plain database, and that the journal of such a run is legal.
-use Rattle.std.proofs.Common.{◌≡◌, ℕ, length, take, get_or, ◌+◌, ◌<◌, ◌≤◌, Bool, true, false, cond, not, ◌&&◌, ◌||◌, eqb, ltb, List, [], ◌∷◌, ◌++◌, map, Option, Some, None, refl, sym, ap, ◌∙◌, subst, arith, pos}
+use Rattle.std.proofs.Common.{◌≡◌, ℕ, length, take, get_or, ◌+◌, ◌<◌, ◌≤◌, Bool, true, false, cond, not, ◌&&◌, ◌||◌, eqb, List, [], ◌∷◌, ◌++◌, map, Option, Some, None, refl, sym, ap, ◌∙◌, subst, arith}
 use Rattle.std.specs.Option.{option_map, option_map_or}
-use Rattle.std.specs.List.{list_any}
 use Rattle.std.specs.Cmp.{IsTotalOrder}
 use Rattle.std.specs.Prelude.{IsSome, nat_eq}
 use Rattle.std.specs.Cmp.Lexicographic.{pointwise}
@@ -15,17 +14,13 @@ use Rattle.rdb_runner.proofs.PlainFits.{length_after, step_named}
 use Rattle.std.specs.Ordering.{is_eq}
 use Rattle.rdb_base.specs.Order.{row_order}
 use Rattle.rdb_base.specs.declared.operation.Op.{Op}
-use Rattle.rdb_base.specs.declared.operation.Op.TheVariants as op
 use Rattle.rdb_base.specs.declared.operation.Reply.{Reply}
 use Rattle.rdb_base.specs.declared.operation.Reply.TheVariants as reply
-use Rattle.rdb_base.specs.declared.value.Leaf.TheVariants as leaf
-use Rattle.rdb_base.specs.declared.value.Value.TheVariants as value
 use Rattle.rdb_schema.specs.declared.schema.Schema.{Schema}
 use Rattle.rdb_model.specs.Database.{Database, empty}
 use Rattle.rdb_model.specs.Answer.{answer}
 use Rattle.rdb_model.specs.Story.{run, same_reply}
-use Rattle.rdb_model.specs.Journal.{IsLegal, wrong_reply, was_made, made_by as object_made_by, made_in, judged}
-use Rattle.rdb_model.specs.declared.legality.Legality.{Legality}
+use Rattle.rdb_model.specs.Journal.{IsLegal, wrong_reply, was_made}
 use Rattle.rdb_model.specs.declared.legality.Legality.TheVariants as legality
 use Rattle.rdb_model.specs.declared.legality.Why.TheVariants as why
 use Rattle.rdb_runner.specs.declared.plain_client.PlainStep.{PlainStep}

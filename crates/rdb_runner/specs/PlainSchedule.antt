@@ -1,5 +1,5 @@
 -- The simplest schedule: the items `1*` and `1`, with blanks between them.
-use Rattle.std.specs.Prelude.{◌≡◌, ℕ, Bool, true, false, ◌||◌, ◌&&◌, ◌==◌, List, [], ◌∷◌, length, take, drop, codes, if◌then◌else◌, not}
+use Rattle.std.specs.Prelude.{ℕ, Bool, ◌||◌, ◌&&◌, ◌==◌, List, [], ◌∷◌, length, take, drop, codes, if◌then◌else◌, not}
 use Rattle.std.specs.Cmp.Lexicographic.{pointwise}
 
 -- a space, a tab or a line feed

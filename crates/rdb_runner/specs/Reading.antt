@@ -1,5 +1,5 @@
 -- What a call saw of the files, and what it says of them.
-use Rattle.std.specs.Prelude.{◌≡◌, ℕ, ◌+◌, ◌<◌, ◌≤◌, ◌⊎◌, List, [], ◌∷◌, ◌++◌, length, take, Option, Result, Ok, Err, IfSome, slice_get, Some, All}
+use Rattle.std.specs.Prelude.{◌≡◌, ℕ, ◌+◌, ◌<◌, ◌≤◌, ◌⊎◌, List, [], ◌∷◌, ◌++◌, length, take, Option, Result, Ok, Err, IfSome, slice_get, Some}
 use Rattle.std.specs.Option.{option_map}
 use Rattle.rdb_base.specs.Outside.{Rose}
 use Rattle.rdb_runner.specs.declared.reading.Unread.{Unread}

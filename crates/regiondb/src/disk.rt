@@ -1,6 +1,7 @@
 //! The machine's files. It tells nothing of their content.
 
-ghost use Rattle.std.specs.Prelude.{◌≡◌, ◌≤◌, IfOk, length, None};
+ghost use Rattle.std.specs.Prelude.{◌≡◌, ◌≤◌, IfOk, IfErr, length, None};
+ghost use Rattle.regiondb.specs.Budget.{IsLimit};
 
 use rdb_base::files::{Bytes, Files, ReadFault};
 use rdb_base::list::List;
@@ -31,7 +32,7 @@ fn read_to_end<R: rt::Files>(
     budget: u64,
 ) -> Result<Bytes, ReadFault>
     ensures within { IfOk result (λ bytes. length bytes ≤ budget) }
-    ensures limit { IfErr result (IsLimit budget) }
+    ensures limit { IfErr result (λ fault. IsLimit budget fault) }
 {
     let Ok(mut file) = fs::open(rt, name) else {
         return Err(ReadFault::Failed);

@@ -1,4 +1,4 @@
-use Rattle.std.proofs.Common.{◌≡◌, ℕ, List, sym, ◌∙◌, subst, decimal}
+use Rattle.std.proofs.Common.{sym, ◌∙◌}
 use Rattle.std.proofs.lemmas.Fmt.{decimal_injective}
 use Rattle.rdb_runner.proofs.DecimalLemmas.{split_at_number}
 use Rattle.rdb_runner.proofs.decimal.number_at.Goals as goal

@@ -1,4 +1,4 @@
-use Rattle.std.proofs.Common.{◌≡◌, ℕ, ◌<◌, ◌^◌, List, SomeIff, subst, sym, ◌∙◌}
+use Rattle.std.proofs.Common.{ℕ, ◌<◌, ◌^◌, List, SomeIff, subst}
 use Rattle.std.specs.Str.Parse.{IsNumeral, digits_value}
 use Rattle.rdb_runner.proofs.DecimalLemmas.{printed_by_value, unprinted_by_value, leading_zero, printed_is_text, IfNone-is}
 use Rattle.rdb_runner.proofs.decimal.printed.Goals as goal

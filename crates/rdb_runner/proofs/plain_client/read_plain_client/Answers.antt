@@ -1,4 +1,3 @@
-use Rattle.std.proofs.Common.{List}
 use Rattle.rdb_runner.proofs.PlainClientLemmas.{one_more, goes_on, stuck}
 use Rattle.rdb_runner.proofs.plain_client.read_plain_client.Goals as goal
 

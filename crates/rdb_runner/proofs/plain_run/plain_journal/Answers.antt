@@ -1,8 +1,7 @@
-use Rattle.std.proofs.Common.{◌≡◌, List, sym, subst, refl}
-use Rattle.rdb_base.specs.declared.journal.Entry.{Entry}
+use Rattle.std.proofs.Common.{sym, subst, refl}
 use Rattle.rdb_schema.specs.declared.schema.Schema.{Schema}
 use Rattle.rdb_model.specs.Journal.{IsLegal}
-use Rattle.rdb_runner.specs.PlainReport.{AreAnswered, IsJournalOf, journal_of}
+use Rattle.rdb_runner.specs.PlainReport.{AreAnswered, journal_of}
 use Rattle.rdb_runner.proofs.PlainRunLemmas.{journal_is_legal}
 use Rattle.rdb_runner.proofs.plain_run.plain_journal.Goals as goal
 

@@ -1,4 +1,4 @@
-use Rattle.std.proofs.Common.{◌≡◌, ℕ, Bool, true, false, List, length, drop, refl, sym, ap, ◌∙◌}
+use Rattle.std.proofs.Common.{◌≡◌, ℕ, Bool, true, false, List, length, drop, sym, ap, ◌∙◌}
 use Rattle.std.specs.Prelude.{codes, ◌==◌, ◌&&◌, not}
 use Rattle.std.proofs.lemmas.Bool.{ne_eqb}
 use Rattle.rdb_runner.specs.PlainSchedule.{after_blanks, begins_with, is_plain_schedule}
@@ -9,7 +9,7 @@ abbrev judge : List ℕ → List ℕ → Bool
 judge first second = begins_with first (codes "1*") && not (length second == length (drop 2 first)) && begins_with second (codes "1") && (length (after_blanks (drop 1 second)) == 0)
 
 judged : (first second : List ℕ) → true ≡ begins_with first (codes "1*") → (length second == length (drop 2 first)) ≡ false → true ≡ begins_with second (codes "1")
-  → judge first second ≡ (length (after_blanks (drop 1 second)) == 0)
+    → judge first second ≡ (length (after_blanks (drop 1 second)) == 0)
 judged first second b n s = λ i. (sym b) i && not (n i) && (sym s) i && (length (after_blanks (drop 1 second)) == 0)
 
 plain : (text first second : List ℕ) → first ≡ after_blanks text → second ≡ after_blanks (drop 2 first) → is_plain_schedule text ≡ judge first second

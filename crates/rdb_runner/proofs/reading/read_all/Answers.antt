@@ -1,10 +1,10 @@
-use Rattle.std.proofs.Common.{◌≡◌, ℕ, ◌+◌, ◌<◌, ◌≤◌, List, [], ◌∷◌, ◌++◌, length, take, map, get_or, Bor, ap, sym, ◌∙◌, arith, subst, Some}
+use Rattle.std.proofs.Common.{◌≡◌, ℕ, ◌+◌, ◌<◌, List, [], ◌++◌, length, map, get_or, Bor, ap, sym, ◌∙◌, arith, Some}
 use Rattle.std.specs.Prelude.{slice_get}
 use Rattle.std.proofs.lemmas.Result.{err_from_is_err_and}
 use Rattle.std.proofs.lemmas.List.{length-map}
 use Rattle.std.proofs.lemmas.Option.{slice_get-map, slice_get-get_or}
 use Rattle.std.specs.Option.{option_map}
-use Rattle.rdb_runner.specs.Reading.{AreBytesOf, sight_of}
+use Rattle.rdb_runner.specs.Reading.{sight_of}
 use Rattle.rdb_runner.proofs.ReadingLemmas.{AreBytesOf-snoc, IsBytesOf-told, asked_on, take_map_more, read_stops}
 use Rattle.rdb_runner.proofs.reading.read_all.Goals as goal
 

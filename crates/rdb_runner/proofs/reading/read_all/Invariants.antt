@@ -1,4 +1,4 @@
-use Rattle.std.proofs.Common.{◌≡◌, map, ℕ, ◌≤◌, List, length, take}
+use Rattle.std.proofs.Common.{◌≡◌, map, ℕ, List, take}
 use Rattle.rdb_runner.specs.Reading.{AreBytesOf, Asks, sight_of}
 use Rattle.rdb_runner.proofs.reading.read_all.Given as goal
 

@@ -1,5 +1,5 @@
 use native.Mathlib.Omega.{arith}
-use Rattle.std.proofs.Common.{◌≡◌, ℕ, List, [], ◌∷◌, sym, ap, ◌∙◌, subst, Bor, length, get_or}
+use Rattle.std.proofs.Common.{◌≡◌, ℕ, List, [], sym, ap, ◌∙◌, subst, Bor, length, get_or}
 use Rattle.rdb_runner.specs.CommandLine.{replay, texts}
 use Rattle.rdb_runner.specs.Command.{CommandEnds}
 use Rattle.rdb_runner.specs.Reading.{sight_of}

@@ -12,6 +12,6 @@ returns-in-Err-NotBuilt g c =
     let ink = ink_of g.K.Sink.written g.K.Sink.faults c.args.out.now c.tell_name-in-Err-NotBuilt.new.out in
     let name = c.name_at-name-in-Err-NotBuilt in
     record {
-        asked = c.work.ensures.asked;
-        told = other_told names sight ink c.tell_name-in-Err-NotBuilt.result c.in-Err-NotBuilt.place name.result.now (subst (λ h. IsJobWork names sight (Err h)) c.in-Err-NotBuilt.field-0-is (subst (IsJobWork names sight) c.in-Err-NotBuilt.is c.work.ensures.work)) name.ensures c.tell_name-in-Err-NotBuilt.ensures
+      asked = c.work.ensures.asked;
+      told = other_told names sight ink c.tell_name-in-Err-NotBuilt.result c.in-Err-NotBuilt.place name.result.now (subst (λ h. IsJobWork names sight (Err h)) c.in-Err-NotBuilt.field-0-is (subst (IsJobWork names sight) c.in-Err-NotBuilt.is c.work.ensures.work)) name.ensures c.tell_name-in-Err-NotBuilt.ensures;
     }
