@@ -1,6 +1,7 @@
 //! Standard output. It tells nothing of what it wrote.
 
-ghost use Rattle.std.specs.Prelude.{◌≡◌, None};
+ghost use Rattle.std.specs.Prelude.{◌≡◌, ◌⊎◌, None};
+ghost use Rattle.rdb_base.specs.Outside.{Rose};
 
 use rdb_base::sink::{Sink, WriteFault};
 use std::io::Write;
@@ -25,7 +26,9 @@ impl<W> Output<W> {
 
 impl<W: Write> Output<W> {
     /// Writes the line of a faulty command line, and answers this status or that the write failed.
-    pub fn usage(&mut self, status: u8) -> u8 {
+    pub fn usage(&mut self, status: u8) -> u8
+        ensures { ((result ≡ status) × (self.new.faults ≡ self.old.faults)) ⊎ ((result ≡ 7) × Rose self.old.faults self.new.faults) }
+    {
         match self.write(b"regiondb: usage\n") {
             Ok(()) => status,
             Err(_) => CUT_OFF,
