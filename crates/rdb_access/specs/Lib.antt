@@ -1,4 +1,0 @@
-pub mod Types
-pub mod Encoding
-pub mod Answers
-pub mod Walk
