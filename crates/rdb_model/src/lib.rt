@@ -11,6 +11,4 @@ pub mod legality;
 mod lookups;
 pub mod objects;
 mod seek;
-#[cfg(test)]
-mod tests;
 pub mod touching;
