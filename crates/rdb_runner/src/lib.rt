@@ -12,5 +12,3 @@ pub mod reading;
 pub mod region;
 pub mod replay;
 mod telling;
-#[cfg(test)]
-mod tests;
