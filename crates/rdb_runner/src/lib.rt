@@ -12,3 +12,5 @@ pub mod reading;
 pub mod region;
 pub mod replay;
 mod telling;
+#[cfg(test)]
+mod tests;

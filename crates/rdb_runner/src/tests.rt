@@ -1,0 +1,132 @@
+use crate::region::region_main;
+use rdb_base::files::Files;
+use rdb_base::gate::NoGate;
+use rdb_base::list::{List, NoMemory};
+use rdb_base::memory_files::MemoryFiles;
+use rdb_base::memory_sink::MemorySink;
+use rdb_base::sink::Sink;
+use rdb_base::sure::{SureFiles, SureSink};
+use std::alloc::Global;
+use std::test::Fail;
+
+const SCHEMA: &[u8] = b"declare database shop; class Item { uint4 n; autoid; };";
+
+const SCHEDULE: &[u8] = b"1* 1";
+
+const CLIENT: &[u8] = b"begin rw\nnew Item {7}\nget Item 1\ncommit\n";
+
+const REPORT: &[u8] =
+    b"commit 1 client 1 tx 1 begun 0 snapshot 0\n  new Item {7} -> made 1\n  get Item 1 -> {7}\nclosed client 1\nclient 1 done\ntotal commits 1 reads 0 aborts 0 handled 0\n";
+
+fn words(alloc: Global, line: &str) -> Result<Vec<String>, NoMemory> {
+    let mut words = Vec::new(alloc);
+    for word in line.split_whitespace() {
+        words.push(String::from_str(alloc, word)?)?;
+    }
+    Ok(words)
+}
+
+fn numbers(alloc: Global, of: &[u32]) -> Result<List<u32>, NoMemory> {
+    List::from_slice(alloc, of)
+}
+
+fn files(alloc: Global, failing: &[u32]) -> Result<MemoryFiles, NoMemory> {
+    let mut files = MemoryFiles::new(alloc, numbers(alloc, failing)?);
+    files.put("schema", SCHEMA)?;
+    files.put("schedule", SCHEDULE)?;
+    files.put("client1", CLIENT)?;
+    Ok(files)
+}
+
+fn status<F: Files, K: Sink>(
+    alloc: Global,
+    line: &str,
+    files: &mut F,
+    out: &mut K,
+) -> Result<u8, NoMemory> {
+    let words = words(alloc, line)?;
+    Ok(region_main(alloc, words.as_slice(), files, out, &NoGate))
+}
+
+#[test]
+fn a_row_is_made_read_and_committed(rt: HostRuntime) -> Result<(), Fail> {
+    let alloc = rt.alloc();
+    let mut files = files(alloc, &[])?;
+    let mut out = MemorySink::new(alloc, List::new(alloc), List::new(alloc));
+    let line = "replay schema schedule client1";
+    assert_eq!(rt; status(alloc, line, &mut files, &mut out)?, 0);
+    assert!(rt; out.bytes() == REPORT);
+    Ok(())
+}
+
+#[test]
+fn a_report_needs_no_files_that_tell(rt: HostRuntime) -> Result<(), Fail> {
+    let alloc = rt.alloc();
+    let mut files = SureFiles::new(alloc);
+    files.put("schema", SCHEMA)?;
+    files.put("schedule", SCHEDULE)?;
+    files.put("client1", CLIENT)?;
+    let mut out = SureSink::new();
+    let line = "replay --manager=mursiw schema schedule client1";
+    assert_eq!(rt; status(alloc, line, &mut files, &mut out)?, 0);
+    assert_eq!(rt; out.count(), REPORT.len() as u64);
+    Ok(())
+}
+
+#[test]
+fn each_refusal_has_its_status_and_line(rt: HostRuntime) -> Result<(), Fail> {
+    let alloc = rt.alloc();
+    let table = [
+        ("", 2, "regiondb: usage\n"),
+        (
+            "replay --pages 0 schema schedule client1",
+            2,
+            "regiondb: usage\n",
+        ),
+        (
+            "replay nothing schedule client1",
+            3,
+            "regiondb: cannot read nothing\n",
+        ),
+        (
+            "replay schema schedule schedule",
+            10,
+            "regiondb: not built schedule\n",
+        ),
+        (
+            "replay client1 schedule schema",
+            10,
+            "regiondb: not built client1\n",
+        ),
+        (
+            "replay schema client1 client1",
+            10,
+            "regiondb: not built client1\n",
+        ),
+        ("replay schema schedule", 10, "regiondb: not built replay\n"),
+        ("run schema client1", 10, "regiondb: not built run\n"),
+        ("audit schema schedule", 10, "regiondb: not built audit\n"),
+        ("check schema", 10, "regiondb: not built check\n"),
+        ("job --threads 7", 10, "regiondb: not built job\n"),
+    ];
+    for (line, want, text) in table {
+        let mut files = files(alloc, &[])?;
+        let mut out = MemorySink::new(alloc, List::new(alloc), List::new(alloc));
+        assert_eq!(rt; status(alloc, line, &mut files, &mut out)?, want, "{line}");
+        assert!(rt; out.bytes() == text.as_bytes(), "{line}");
+    }
+    Ok(())
+}
+
+#[test]
+fn a_file_past_the_limit_cannot_be_read(rt: HostRuntime) -> Result<(), Fail> {
+    let alloc = rt.alloc();
+    let mut files = files(alloc, &[])?;
+    let big = vec![in alloc; b' '; 16_777_217]?;
+    files.put("big", big.as_slice())?;
+    let mut out = MemorySink::new(alloc, List::new(alloc), List::new(alloc));
+    let line = "replay big schedule client1";
+    assert_eq!(rt; status(alloc, line, &mut files, &mut out)?, 3);
+    assert!(rt; out.bytes() == b"regiondb: cannot read big\n".as_slice());
+    Ok(())
+}
