@@ -11,4 +11,6 @@ pub mod legality;
 mod lookups;
 pub mod objects;
 mod seek;
+#[cfg(test)]
+mod tests;
 pub mod touching;

@@ -1,3 +1,5 @@
+ghost use Rattle.std.specs.Prelude.{◌≡◌, IfOk};
+
 use crate::region::region_main;
 use rdb_base::files::Files;
 use rdb_base::gate::NoGate;
@@ -18,6 +20,9 @@ const CLIENT: &[u8] = b"begin rw\nnew Item {7}\nget Item 1\ncommit\n";
 const REPORT: &[u8] =
     b"commit 1 client 1 tx 1 begun 0 snapshot 0\n  new Item {7} -> made 1\n  get Item 1 -> {7}\nclosed client 1\nclient 1 done\ntotal commits 1 reads 0 aborts 0 handled 0\n";
 
+/// The number of lines of the report.
+const LINES: u32 = 6;
+
 fn words(alloc: Global, line: &str) -> Result<Vec<String>, NoMemory> {
     let mut words = Vec::new(alloc);
     for word in line.split_whitespace() {
@@ -26,7 +31,9 @@ fn words(alloc: Global, line: &str) -> Result<Vec<String>, NoMemory> {
     Ok(words)
 }
 
-fn numbers(alloc: Global, of: &[u32]) -> Result<List<u32>, NoMemory> {
+fn numbers(alloc: Global, of: &[u32]) -> Result<List<u32>, NoMemory>
+    ensures { IfOk result (λ list. list ≡ of.now) }
+{
     List::from_slice(alloc, of)
 }
 
@@ -128,5 +135,52 @@ fn a_file_past_the_limit_cannot_be_read(rt: HostRuntime) -> Result<(), Fail> {
     let line = "replay big schedule client1";
     assert_eq!(rt; status(alloc, line, &mut files, &mut out)?, 3);
     assert!(rt; out.bytes() == b"regiondb: cannot read big\n".as_slice());
+    Ok(())
+}
+
+#[test]
+fn each_read_that_fails_is_told(rt: HostRuntime) -> Result<(), Fail> {
+    let alloc = rt.alloc();
+    let lines = [
+        "regiondb: cannot read schema\n",
+        "regiondb: cannot read schedule\n",
+        "regiondb: cannot read client1\n",
+    ];
+    let mut number = 0u32;
+    for line in lines {
+        number = number.saturating_add(1);
+        let mut files = files(alloc, &[number])?;
+        let mut out = MemorySink::new(alloc, List::new(alloc), List::new(alloc));
+        let words = "replay schema schedule client1";
+        assert_eq!(rt; status(alloc, words, &mut files, &mut out)?, 3);
+        assert!(rt; out.bytes() == line.as_bytes());
+    }
+    Ok(())
+}
+
+#[test]
+fn each_write_that_fails_leaves_a_prefix(rt: HostRuntime) -> Result<(), Fail> {
+    let alloc = rt.alloc();
+    for number in 1..LINES + 1 {
+        for taken in [0, 4] {
+            let mut files = files(alloc, &[])?;
+            let failing = numbers(alloc, &[number])?;
+            let mut out = MemorySink::new(alloc, failing, numbers(alloc, &[taken])?);
+            let line = "replay schema schedule client1";
+            assert_eq!(rt; status(alloc, line, &mut files, &mut out)?, 7);
+            assert!(rt; REPORT.starts_with(out.bytes()));
+        }
+    }
+    Ok(())
+}
+
+#[test]
+fn a_second_write_that_takes_nothing_leaves_the_first_line(rt: HostRuntime) -> Result<(), Fail> {
+    let alloc = rt.alloc();
+    let mut files = files(alloc, &[])?;
+    let mut out = MemorySink::new(alloc, numbers(alloc, &[2])?, numbers(alloc, &[0])?);
+    let line = "replay schema schedule client1";
+    assert_eq!(rt; status(alloc, line, &mut files, &mut out)?, 7);
+    assert!(rt; out.bytes() == b"commit 1 client 1 tx 1 begun 0 snapshot 0\n".as_slice());
     Ok(())
 }
