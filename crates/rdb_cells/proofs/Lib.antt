@@ -1,3 +1,5 @@
 pub mod OrderLemmas
 pub mod PairLemmas
 pub mod SettledLemmas
+pub mod PlaceLemmas
+pub mod FreeLemmas

@@ -1,25 +1,14 @@
 -- What a plan's list of pairs says of each cell.
-use Rattle.std.proofs.Common.{◌≡◌, ◌≢◌, ◌||◌, ◌==◌, ◌<◌, ◌+◌, zero, suc, ℕ, List, [], ◌∷◌, ◌++◌, length, get_or, set, take, drop, map, Option, Some, Bool, true, false, refl, sym, ap, ◌∙◌, arith, cond, inl, inr, eq-eqb}
+use Rattle.std.proofs.Common.{◌≡◌, ◌≢◌, ◌||◌, ◌==◌, ◌<◌, zero, suc, ℕ, List, [], ◌∷◌, ◌++◌, length, get_or, set, map, Option, Some, None, IsSome, IfSome, IfNone, is_some, Bool, true, false, refl, sym, ap, subst, ◌∙◌, arith, cond, inl, inr, eq-eqb, rules}
 use Rattle.std.proofs.lemmas.Bool.{ne_eqb}
-use Rattle.std.proofs.lemmas.List.Edits.{map_over_more}
 use Rattle.std.proofs.Permutation.{which}
 use Rattle.std.specs.List.{find}
 use Rattle.std.specs.Option.{option_map}
 use Rattle.rdb_pages.specs.declared.cell.Cell.{Cell}
 use Rattle.rdb_cells.specs.declared.pairs.Pair.{Pair}
 use Rattle.rdb_cells.specs.Images.{Image, Writes}
-use Rattle.rdb_cells.specs.Records.{names, content, with_content, replaced, with_put, first_of, planned}
-
-element : (ys : List Pair) (i : ℕ) (d : Pair) → i < length ys → get_or ys i d ≡ get_or ys i (get_or ys i d)
-element [] i d h = absurd (omega arith)
-element (y ∷ ys) zero d h = refl
-element (y ∷ ys) (suc i) d h =
-    let e = element ys i d (omega arith) in e
-
--- one more pair is replaced
-pub replace_step : (n : ℕ) (cell : Cell) (xs ys : List Pair) (i : ℕ) (d r : Pair) → i < length xs → length ys ≡ length xs → ys ≡ map (with_content n cell) (take i xs) ++ drop i xs → r ≡ with_content n cell (get_or ys i d) → set ys i r ≡ map (with_content n cell) (take (i + 1) xs) ++ drop (i + 1) xs
-replace_step n cell xs ys i d r h same inv is =
-    ap (set ys i) is ∙ map_over_more (with_content n cell) xs ys i (get_or ys i d) h inv (element ys i d (omega arith))
+use Rattle.rdb_cells.specs.Places.{AreDifferent}
+use Rattle.rdb_cells.specs.Records.{names, content, replaced, with_put, first_of, planned}
 
 -- a replaced list gives the new content for its cell, and what it gave for the others
 content-replaced_same : (ps : List Pair) (n : ℕ) (cell : Cell) → names ps n ≡ true → content (replaced ps n cell) n ≡ Some cell
@@ -74,3 +63,92 @@ put_writes ps p image =
         elsewhere = λ other ne. ap (λ (o : Option Cell). first_of o (image other)) (content-append_other ps p other ne);
       }
     ]) refl
+
+-- The numbers of the pairs' cells, as a table keeps them.
+abbrev pub numbers_of : List Pair → List ℕ
+numbers_of ps = map (λ (q : Pair). q.at.number) ps
+
+any_right : (b c : Bool) → c ≡ true → (b || c) ≡ true
+any_right true c e = refl
+any_right false c e = e
+
+neither : (a b : Bool) → (a || b) ≡ false → (a ≡ false) × (b ≡ false)
+neither true b e = cc
+neither false b e = (refl, e)
+
+different-tail : (x : ℕ) (xs : List ℕ) → AreDifferent (x ∷ xs) → AreDifferent xs
+different-tail x xs d i j hi hj e = let s = d (suc i) (suc j) (omega arith) (omega arith) e in omega arith
+
+different-head : (x : ℕ) (xs : List ℕ) (i : ℕ) → AreDifferent (x ∷ xs) → i < length xs → get_or xs i 0 ≢ x
+different-head x xs i d h e = let s = d 0 (suc i) (omega arith) (omega arith) (sym e) in absurd (omega arith)
+
+pub names_at : (ps : List Pair) (i n : ℕ) → i < length (numbers_of ps) → get_or (numbers_of ps) i 0 ≡ n → names ps n ≡ true
+names_at [] i n h e = absurd (omega arith)
+names_at (p ∷ ps) zero n h e = rw (eq-eqb p.at.number n e) refl
+names_at (p ∷ ps) (suc i) n h e = any_right (p.at.number == n) (names ps n) (names_at ps i n (omega arith) e)
+
+pub names_none : (ps : List Pair) (n : ℕ) → ((i : ℕ) → i < length (numbers_of ps) → get_or (numbers_of ps) i 0 ≢ n) → names ps n ≡ false
+names_none [] n none = refl
+names_none (p ∷ ps) n none = rw (ne_eqb p.at.number n (none 0 (omega arith))) (names_none ps n (λ i h. none (suc i) (omega arith)))
+
+pub unnamed_fresh : (ps : List Pair) (n : ℕ) → names ps n ≡ false → (i : ℕ) → i < length (numbers_of ps) → get_or (numbers_of ps) i 0 ≢ n
+unnamed_fresh [] n e i h same = absurd (omega arith)
+unnamed_fresh (p ∷ ps) n e zero h same = let off = (neither (p.at.number == n) (names ps n) e).0 in let on = eq-eqb p.at.number n same in cc
+unnamed_fresh (p ∷ ps) n e (suc i) h same = unnamed_fresh ps n (neither (p.at.number == n) (names ps n) e).1 i (omega arith) same
+
+pub content_at : (ps : List Pair) (i n : ℕ) (d : Pair) → AreDifferent (numbers_of ps) → i < length (numbers_of ps) → get_or (numbers_of ps) i 0 ≡ n → content ps n ≡ Some (get_or ps i d).cell
+content_at [] i n d apart h e = absurd (omega arith)
+content_at (p ∷ ps) zero n d apart h e = rw (eq-eqb p.at.number n e) refl
+content_at (p ∷ ps) (suc i) n d apart h e =
+    let different : p.at.number ≢ n = λ same. different-head p.at.number (numbers_of ps) i apart (omega arith) (e ∙ sym same) in
+    rw (ne_eqb p.at.number n different) (content_at ps i n d (different-tail p.at.number (numbers_of ps) apart) (omega arith) e)
+
+pub content_unnamed : (ps : List Pair) (n : ℕ) → names ps n ≡ false → content ps n ≡ None
+content_unnamed [] n e = refl
+content_unnamed (p ∷ ps) n e =
+    let both = neither (p.at.number == n) (names ps n) e in
+    rw both.0 (content_unnamed ps n both.1)
+
+pub content_named : (ps : List Pair) (n : ℕ) → names ps n ≡ true → IsSome (content ps n)
+content_named [] n e = cc
+content_named (p ∷ ps) n e =
+    (elim (p.at.number == n) as (λ (b : Bool). (b || names ps n) ≡ true → IsSome (option_map (λ (q : Pair). q.cell) (cond b (Some p) (find (λ (q : Pair). q.at.number == n) ps)))) [
+      | true ↦ λ h. search rules
+      | false ↦ λ h. content_named ps n h
+    ]) e
+
+pub replaced_unnamed : (ps : List Pair) (n : ℕ) (cell : Cell) → names ps n ≡ false → replaced ps n cell ≡ ps
+replaced_unnamed [] n cell e = refl
+replaced_unnamed (p ∷ ps) n cell e =
+    let both = neither (p.at.number == n) (names ps n) e in
+    rw both.0 (ap (λ (qs : List Pair). p ∷ qs) (replaced_unnamed ps n cell both.1))
+
+pub replaced_at : (ps : List Pair) (i : ℕ) (q : Pair) → AreDifferent (numbers_of ps) → i < length (numbers_of ps) → get_or (numbers_of ps) i 0 ≡ q.at.number → set ps i q ≡ replaced ps q.at.number q.cell
+replaced_at [] i q apart h e = absurd (omega arith)
+replaced_at (p ∷ ps) zero q apart h e =
+    let rest = replaced_unnamed ps q.at.number q.cell (names_none ps q.at.number (λ i below same. different-head p.at.number (numbers_of ps) i apart below (same ∙ sym e))) in
+    rw (eq-eqb p.at.number q.at.number e)
+    (ap (λ (k : ℕ). record { at = record { number = k }; cell = q.cell } ∷ ps) (sym e) ∙ ap (λ (qs : List Pair). record { at = p.at; cell = q.cell } ∷ qs) (sym rest))
+replaced_at (p ∷ ps) (suc i) q apart h e =
+    let different : p.at.number ≢ q.at.number = λ same. different-head p.at.number (numbers_of ps) i apart (omega arith) (e ∙ sym same) in
+    rw (ne_eqb p.at.number q.at.number different) (ap (λ (qs : List Pair). p ∷ qs) (replaced_at ps i q (different-tail p.at.number (numbers_of ps) apart) (omega arith) e))
+
+pub numbers-append : (ps : List Pair) (p : Pair) → numbers_of (ps ++ p ∷ []) ≡ numbers_of ps ++ p.at.number ∷ []
+numbers-append [] p = refl
+numbers-append (q ∷ ps) p = ap (λ (ns : List ℕ). q.at.number ∷ ns) (numbers-append ps p)
+
+-- a replaced pair keeps its cell
+pub numbers-replaced : (ps : List Pair) (n : ℕ) (cell : Cell) → numbers_of (replaced ps n cell) ≡ numbers_of ps
+numbers-replaced [] n cell = refl
+numbers-replaced (p ∷ ps) n cell =
+    (elim (p.at.number == n) as (λ (b : Bool). (cond b (record p { cell = cell }) p).at.number ∷ numbers_of (replaced ps n cell) ≡ p.at.number ∷ numbers_of ps) [
+      | true ↦ ap (λ (ns : List ℕ). p.at.number ∷ ns) (numbers-replaced ps n cell)
+      | false ↦ ap (λ (ns : List ℕ). p.at.number ∷ ns) (numbers-replaced ps n cell)
+    ])
+
+-- a look-up by the table
+pub is_named : (r : Option ℕ) (ps : List Pair) (ns : List ℕ) (n : ℕ) → ns ≡ numbers_of ps → IfSome r (λ i. (i < length ns) × (get_or ns i 0 ≡ n)) → IfNone r ((i : ℕ) → i < length ns → get_or ns i 0 ≢ n) → is_some r ≡ names ps n
+is_named None ps ns n e found none = sym (names_none ps n (subst (λ (ks : List ℕ). (i : ℕ) → i < length ks → get_or ks i 0 ≢ n) e none))
+is_named (Some i) ps ns n e found none =
+    let at = subst (λ (ks : List ℕ). (i < length ks) × (get_or ks i 0 ≡ n)) e found in
+    sym (names_at ps i n at.0 at.1)

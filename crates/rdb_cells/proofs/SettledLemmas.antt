@@ -164,7 +164,7 @@ first_step xs i n r h e =
     rw (add-one, drop-cons xs i r) (ap (λ (q : List Pair). first_of (content q n) (first_content (drop (suc i) xs) n)) (sym e))
 
 module _ {A : Type 0} (f : A → List Pair) where
-  item : (ys : List A) (i : ℕ) (d : A) → i < length ys → d ≡ get_or ys i d → f d ≡ get_or (map f ys) i (f d)
+  pub item : (ys : List A) (i : ℕ) (d : A) → i < length ys → d ≡ get_or ys i d → f d ≡ get_or (map f ys) i (f d)
   item [] i d h e = absurd (omega arith)
   item (y ∷ ys) zero d h e = ap f e
   item (y ∷ ys) (suc i) d h e = item ys i d (omega arith) e

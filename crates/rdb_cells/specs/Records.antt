@@ -58,9 +58,13 @@ abbrev pub settled : List (List Pair) → Image → Image
 settled [] image = image
 settled (r ∷ rs) image = taken_back r (settled rs image)
 
+-- some record has a pair of the cell
+abbrev pub some_names : List (List Pair) → ℕ → Bool
+some_names records n = list_any (λ r. names r n) records
+
 -- no record has a pair of the cell
 abbrev pub NoneNames : List (List Pair) → ℕ → Type 0
-NoneNames records n = list_any (λ r. names r n) records ≡ false
+NoneNames records n = some_names records n ≡ false
 
 -- Among any records of others, of which none has a pair of the cell n, a reader who takes back these and the own record
 -- sees afterwards what it saw before.

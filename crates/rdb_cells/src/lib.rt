@@ -3,12 +3,14 @@
 #![tactic(auto)]
 
 mod cells;
+mod free;
 mod kind;
 mod laws;
 mod log;
 mod memory;
 mod overlay;
 mod pairs;
+mod places;
 mod plan;
 mod reference;
 mod settled;

@@ -4,6 +4,8 @@ ghost use Rattle.rdb_cells.specs.Images.{IsCell, IsFree, IsNextFree, Writes};
 ghost use Rattle.rdb_cells.specs.Records.{names, planned, with_put};
 
 use crate::cells::Cells;
+use crate::free::{Layer, lowest_below, lowest_named, sooner};
+use crate::kind::is_zero;
 use crate::pairs::Pair;
 use crate::plan::Plan;
 use crate::reference::NONE;
@@ -91,5 +93,37 @@ impl<C: Cells> Overlay<C> {
             }
             None => unreachable!(),
         }
+    }
+}
+
+impl<C: Cells> Layer for Overlay<C> {
+    ghost image = { λ o. planned o.plan.pairs (C.image o.cells) };
+
+    ghost class_of = { λ o. C.class_of o.cells };
+
+    fn is_free(&self, class: u32, at: CellRef) -> bool {
+        self.cells.in_class(class, at) && is_zero(&self.planned(at))
+    }
+}
+
+/// What the cells will hold. A read costs a look-up in the plan, and one read below where the plan says nothing of the
+/// cell. A search for a free cell goes through the plan once and searches below once, and once more for each free cell that
+/// the plan fills.
+impl<C: Cells> Cells for Overlay<C> {
+    ghost image = { λ o. planned o.plan.pairs (C.image o.cells) };
+
+    ghost class_of = { λ o. C.class_of o.cells };
+
+    fn read(&self, at: CellRef) -> Cell {
+        self.planned(at)
+    }
+
+    fn in_class(&self, class: u32, at: CellRef) -> bool {
+        self.cells.in_class(class, at)
+    }
+
+    fn free_after(&self, class: u32, at: CellRef) -> Option<CellRef> {
+        let below = lowest_below(self, &self.cells, class, at);
+        sooner(lowest_named(self, class, at, self.plan.as_slice()), below)
     }
 }

@@ -1,8 +1,9 @@
 //! Pairs of a cell and a content, in the order in which they came, over memory that is reserved once.
-ghost use Rattle.std.specs.Prelude.{◌≡◌, ◌<◌, ◌-◌, ◌==◌, [], ◌∷◌, ◌++◌, length, IfOk, false, slice_get};
+ghost use Rattle.std.specs.Prelude.{◌≡◌, ◌<◌, ◌-◌, [], ◌∷◌, ◌++◌, length, IfOk, false, slice_get};
 ghost use Rattle.std.specs.Option.{option_copied};
-ghost use Rattle.rdb_cells.specs.Records.{names, content, with_content, replaced};
+ghost use Rattle.rdb_cells.specs.Records.{names, content, replaced};
 
+use crate::places::Places;
 use rdb_base::list::NoMemory;
 use rdb_pages::{Cell, CellRef};
 use std::alloc::Global;
@@ -16,33 +17,22 @@ pub struct Pair {
 }
 
 /// Pairs of different cells, in the order in which they came. Contracts see the list of the pairs, oldest first, and how
-/// many there is room for. After `reserve` no call takes memory.
+/// many there is room for. After `reserve` no call takes memory. A cell's pair is found by a hash table.
 #[derive(Drop)]
 pub struct Pairs {
     pairs: Vec<Pair>,
-    room: usize,
+    places: Places,
 }
 
 impl Model for Pairs {
-    ghost use Rattle.std.specs.Prelude.{◌≤◌, length, vec_capacity};
+    ghost use Rattle.std.specs.Prelude.{◌≡◌, ◌≤◌, length, map, vec_capacity};
     ghost use Rattle.rdb_cells.specs.Records.{Record};
 
     ghost Value = { Record };
 
-    ghost view = { λ p. record { pairs = p.pairs.items; room = p.room } };
+    ghost view = { λ p. record { pairs = p.pairs.items; room = p.places.room } };
 
-    ghost invariant = { λ p. (length p.pairs.items ≤ p.room) × (p.room ≤ vec_capacity p.pairs) };
-}
-
-/// Returns the pair, with this content if it is one of the cell.
-fn changed(pair: Pair, at: CellRef, cell: Cell) -> Pair
-    ensures { result ≡ with_content at.number cell pair }
-{
-    if pair.at.number == at.number {
-        Pair { at: pair.at, cell }
-    } else {
-        pair
-    }
+    ghost invariant = { λ p. (p.places.numbers ≡ map (λ q. q.at.number) p.pairs.items) × (length p.pairs.items ≤ p.places.room) × (p.places.room ≤ vec_capacity p.pairs) };
 }
 
 impl Pairs {
@@ -52,7 +42,7 @@ impl Pairs {
     {
         Ok(Pairs {
             pairs: Vec::with_capacity(alloc, count)?,
-            room: count,
+            places: Places::reserve(alloc, count)?,
         })
     }
 
@@ -67,7 +57,7 @@ impl Pairs {
     pub fn room(&self) -> usize
         ensures { result ≡ self.now.room }
     {
-        self.room
+        self.places.room()
     }
 
     /// Appends a pair of a cell that has none yet.
@@ -76,6 +66,7 @@ impl Pairs {
         requires fresh { names self.old.pairs pair.at.number ≡ false }
         ensures { self.new ≡ record self.old { pairs = self.old.pairs ++ pair ∷ [] } }
     {
+        self.places.push(pair.at.number);
         let _kept = self.pairs.push(pair);
     }
 
@@ -85,7 +76,10 @@ impl Pairs {
         ensures { self.old ≡ record self.new { pairs = self.new.pairs ++ result ∷ [] } }
     {
         match self.pairs.pop() {
-            Some(pair) => pair,
+            Some(pair) => {
+                let _number = self.places.pop();
+                pair
+            }
             None => unreachable!(),
         }
     }
@@ -104,29 +98,30 @@ impl Pairs {
         self.pairs.as_slice()
     }
 
-    /// Returns whether the cell has a pair. The cost grows with the number of pairs.
+    /// Returns whether the cell has a pair, by one look-up.
     pub fn has(&self, at: CellRef) -> bool
         ensures { result ≡ names self.now.pairs at.number }
     {
-        self.pairs.iter().any(|pair| pair.at.number == at.number)
+        self.places.find(at.number).is_some()
     }
 
-    /// Returns what the cell's pair holds, if the cell has one. The cost grows with the number of pairs.
+    /// Returns what the cell's pair holds, if the cell has one, by one look-up.
     pub fn get(&self, at: CellRef) -> Option<Cell>
         ensures { result ≡ content self.now.pairs at.number }
     {
-        self.pairs
-            .iter()
-            .find(|pair| pair.at.number == at.number)
-            .map(|pair| pair.cell)
+        match self.places.find(at.number) {
+            Some(place) => Some(self.pairs[place].cell),
+            None => None,
+        }
     }
 
-    /// Puts another content into the cell's pair. The cost grows with the number of pairs.
+    /// Puts another content into the cell's pair, if the cell has one, by one look-up.
     pub fn replace(&mut self, at: CellRef, cell: Cell)
         ensures { self.new ≡ record self.old { pairs = replaced self.old.pairs at.number cell } }
     {
-        for pair in self.pairs.iter_mut() {
-            *pair = changed(*pair, at, cell);
+        match self.places.find(at.number) {
+            Some(place) => self.pairs[place] = Pair { at, cell },
+            None => {}
         }
     }
 }

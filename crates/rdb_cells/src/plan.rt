@@ -13,7 +13,8 @@ use std::marker::Model;
 pub const MAX_PLAN: usize = 1024;
 
 /// The cells that an operation is going to write, each once with what it will hold. Contracts see the list of the pairs, in
-/// the order in which the cells came, and how many there is room for. After `reserve` no call takes memory.
+/// the order in which the cells came, and how many there is room for. After `reserve` no call takes memory. A look-up goes by
+/// a hash table: its cost doesn't grow with the plan where the cells spread evenly.
 #[derive(Drop)]
 pub struct Plan {
     pairs: Pairs,
@@ -59,14 +60,14 @@ impl Plan {
         self.pairs.as_slice()
     }
 
-    /// Returns whether the plan has the cell. The cost grows with the plan.
+    /// Returns whether the plan has the cell. It is one look-up.
     pub fn has(&self, at: CellRef) -> bool
         ensures { result ≡ names self.now.pairs at.number }
     {
         self.pairs.has(at)
     }
 
-    /// Returns what the cell will hold, and `None` where the plan doesn't have it. The cost grows with the plan.
+    /// Returns what the cell will hold, and `None` where the plan doesn't have it. It is one look-up.
     pub fn get(&self, at: CellRef) -> Option<Cell>
         ensures { result ≡ content self.now.pairs at.number }
     {
@@ -80,8 +81,8 @@ impl Plan {
         self.pairs.last()
     }
 
-    /// Says what the cell will hold: in its pair where the plan has one, and in a new last pair otherwise. The cost grows
-    /// with the plan.
+    /// Says what the cell will hold: in its pair where the plan has one, and in a new last pair otherwise. The cost is that
+    /// of one look-up.
     pub fn put(&mut self, pair: Pair)
         requires { names self.old.pairs pair.at.number ≡ false → length self.old.pairs < self.old.room }
         ensures { self.new ≡ record self.old { pairs = with_put self.old.pairs pair } }

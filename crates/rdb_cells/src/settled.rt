@@ -4,6 +4,8 @@ ghost use Rattle.rdb_cells.specs.Images.{IsCell};
 ghost use Rattle.rdb_cells.specs.Records.{settled, first_content};
 
 use crate::cells::Cells;
+use crate::free::{Layer, lowest_below, lowest_logged, sooner};
+use crate::kind::is_zero;
 use crate::undo::Undo;
 use rdb_pages::{Cell, CellRef};
 
@@ -32,6 +34,38 @@ impl<'a, C: Cells> Settled<'a, C> {
             Some(cell) => cell,
             None => self.cells.read(at),
         }
+    }
+}
+
+impl<'a, C: Cells> Layer for Settled<'a, C> {
+    ghost image = { λ s. settled (map (λ r. r.now.pairs) s.records.now) (C.image s.cells) };
+
+    ghost class_of = { λ s. C.class_of s.cells };
+
+    fn is_free(&self, class: u32, at: CellRef) -> bool {
+        self.cells.in_class(class, at) && is_zero(&self.settled(at))
+    }
+}
+
+/// What the cells hold once the records are taken back. A read costs a look-up in each record, and one read below where
+/// none has the cell. A search for a free cell goes through the records once and searches below once, and once more for
+/// each free cell that the records fill.
+impl<'a, C: Cells> Cells for Settled<'a, C> {
+    ghost image = { λ s. settled (map (λ r. r.now.pairs) s.records.now) (C.image s.cells) };
+
+    ghost class_of = { λ s. C.class_of s.cells };
+
+    fn read(&self, at: CellRef) -> Cell {
+        self.settled(at)
+    }
+
+    fn in_class(&self, class: u32, at: CellRef) -> bool {
+        self.cells.in_class(class, at)
+    }
+
+    fn free_after(&self, class: u32, at: CellRef) -> Option<CellRef> {
+        let below = lowest_below(self, &self.cells, class, at);
+        sooner(lowest_logged(self, class, at, self.records), below)
     }
 }
 

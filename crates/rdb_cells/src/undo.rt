@@ -11,7 +11,7 @@ use std::marker::Model;
 
 /// The cells that unfinished work has written, each once with what it held before, in the order in which they were
 /// written first. Contracts see the list of the pairs, oldest first, and how many there is room for. After `reserve` no
-/// call takes memory.
+/// call takes memory. A look-up goes by a hash table: its cost doesn't grow with the record where the cells spread evenly.
 #[derive(Drop)]
 pub struct Undo {
     pairs: Pairs,
@@ -49,14 +49,21 @@ impl Undo {
         self.pairs.room()
     }
 
-    /// Returns whether the cell is logged.
+    /// Lends the pairs, oldest first.
+    pub fn as_slice(&self) -> &[Pair]
+        ensures { result.now ≡ self.now.pairs }
+    {
+        self.pairs.as_slice()
+    }
+
+    /// Returns whether the cell is logged, by one look-up.
     pub fn has(&self, at: CellRef) -> bool
         ensures { result ≡ names self.now.pairs at.number }
     {
         self.pairs.has(at)
     }
 
-    /// Returns what a logged cell held before, and `None` for one that isn't logged.
+    /// Returns what a logged cell held before, and `None` for one that isn't logged, by one look-up.
     pub fn get(&self, at: CellRef) -> Option<Cell>
         ensures { result ≡ content self.now.pairs at.number }
     {
