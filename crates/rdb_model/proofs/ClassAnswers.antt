@@ -33,10 +33,10 @@ abbrev pub local_del : Option Row → Objects → Reply × Option Objects
 local_del before after = if is_none before then (reply.NotFound, None) else (reply.Done, Some after)
 
 -- the same of databases
-abbrev put_answer : Option Row → Option (ℕ × ℕ) → Database → Database → Reply × Database
+abbrev pub put_answer : Option Row → Option (ℕ × ℕ) → Database → Database → Reply × Database
 put_answer before clash db after = if is_none before then (reply.NotFound, db) else written clash reply.Done db after
 
-abbrev del_answer : Option Row → Database → Database → Reply × Database
+abbrev pub del_answer : Option Row → Database → Database → Reply × Database
 del_answer before db after = if is_none before then (reply.NotFound, db) else (reply.Done, after)
 
 -- what an operation is told of its class's objects, and these after it, if they change

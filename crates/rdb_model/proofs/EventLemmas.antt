@@ -34,7 +34,7 @@ use Rattle.rdb_model.proofs.SerialPlaces.{get_filtered}
 use Rattle.rdb_model.proofs.SerialBefore.{whole_at}
 
 -- the row of another object stays where one is left out
-row_in_erased_other : (db : Database) (v w : ℕ × ℕ) → ((v.0 == w.0) && (v.1 == w.1)) ≡ false → row_in (erased db v) w ≡ row_in db w
+pub row_in_erased_other : (db : Database) (v w : ℕ × ℕ) → ((v.0 == w.0) && (v.1 == w.1)) ≡ false → row_in (erased db v) w ≡ row_in db w
 row_in_erased_other db v w other = go (nat_eq v.0 w.0) refl other
   where
     go : (a : Bool) → nat_eq v.0 w.0 ≡ a → (a && (v.1 == w.1)) ≡ false → row_in (erased db v) w ≡ row_in db w

@@ -21,3 +21,5 @@ pub mod SerialPlaces
 pub mod SerialBefore
 pub mod EventLemmas
 pub mod EventIds
+pub mod MadeObjects
+pub mod CommitSound

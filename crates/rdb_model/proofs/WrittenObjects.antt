@@ -46,7 +46,7 @@ local_leaves schema (op.Prefix class at text way) os = refl
 local_leaves schema (op.Count class) os = refl
 
 -- the same of a database
-wrote_alone : (schema : Schema) (db : Database) (o : Op) (told : Reply) → (answer schema db o).0 ≡ told → MatchOption (written_by (o, told)) ((answer schema db o).1 ≡ db) (λ w. erased (answer schema db o).1 w ≡ erased db w)
+pub wrote_alone : (schema : Schema) (db : Database) (o : Op) (told : Reply) → (answer schema db o).0 ≡ told → MatchOption (written_by (o, told)) ((answer schema db o).1 ≡ db) (λ w. erased (answer schema db o).1 w ≡ erased db w)
 wrote_alone schema db o told is =
     subst (λ t. MatchOption (written_by (o, told)) (t.1 ≡ db) (λ w. erased t.1 w ≡ erased db w)) (sym (answer_local schema db o))
     (go (written_by (o, told)) (local schema o (objects_of db (class_of o))).1

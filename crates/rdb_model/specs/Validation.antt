@@ -1,5 +1,6 @@
 -- Validation: a story that no later commit touches still runs. Backward validation (Kung and Robinson, 1981), on rows.
-use Rattle.std.specs.Prelude.{◌≡◌, ℕ, ◌-◌, ◌<◌, ◌≤◌, Bool, false, ◌&&◌, ◌==◌, List, IsSome}
+use Rattle.std.specs.Prelude.{◌≡◌, ℕ, ◌-◌, ◌<◌, ◌≤◌, Bool, true, false, ◌&&◌, ◌==◌, List, [], ◌∷◌, ◌++◌, IsSome}
+use Rattle.std.specs.Option.{option_map_or}
 use Rattle.std.specs.List.{filter_map, list_any, All, Contains}
 use Rattle.rdb_base.specs.declared.operation.Op.{Op}
 use Rattle.rdb_base.specs.declared.operation.Reply.{Reply}
@@ -9,7 +10,7 @@ use Rattle.rdb_base.specs.declared.journal.Entry.TheVariants as entry
 use Rattle.rdb_schema.specs.declared.schema.Schema.{Schema}
 use Rattle.rdb_model.specs.Database.{Database}
 use Rattle.rdb_model.specs.Story.{run}
-use Rattle.rdb_model.specs.Journal.{fold, made_in}
+use Rattle.rdb_model.specs.Journal.{fold, has_ended, is_placed, made_by, made_in, made_before, was_made}
 use Rattle.rdb_model.specs.Touch.{touched, written_by}
 
 -- whether operations wrote an object
@@ -29,3 +30,19 @@ AreLeftAlone schema journal from to story =
 -- that a story runs on the database after so many commits
 abbrev pub RunsAfter : Schema → List Entry → ℕ → Story → Type 0
 RunsAfter schema journal n story = IsSome (run schema (fold schema journal n) story.done)
+
+-- that each object that operations make is made for the first time
+abbrev pub MakesAnew : List (ℕ × ℕ) → List (Op × Reply) → Type 0
+MakesAnew made [] = Unit {0}
+MakesAnew made (d ∷ ds) = (option_map_or (was_made made) (made_by d) false ≡ false) × MakesAnew (made ++ made_in (d ∷ [])) ds
+
+-- that validation lets a story commit: its transaction hasn't ended, it began and sees what it may, it makes each object anew,
+-- it runs on the database that it sees, and no commit that it doesn't see touches it
+pub record IsValid (schema : Schema) (journal : List Entry) (story : Story) : Type 0 where
+  pub not_ended : has_ended journal (story.client, story.number) ≡ false
+  pub placed : is_placed journal story ≡ true
+  pub makes_anew : MakesAnew (made_before journal) story.done
+  pub runs : RunsAfter schema journal story.snapshot story
+  pub touches_none :
+      (own : Story) (commit : ℕ) → Contains journal (entry.Commit own commit) → story.snapshot < commit
+      → (operation : ℕ) → touched schema (fold schema journal (commit - 1)) (entry.Commit own commit) story operation ≡ false

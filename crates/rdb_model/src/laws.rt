@@ -1,6 +1,6 @@
 //! Laws of the plain database and of journals, each the contract of a function that does nothing.
 
-ghost use Rattle.std.specs.Prelude.{◌≡◌, ◌↔◌, ℕ, ◌-◌, ◌<◌, ◌≤◌, true, List, ◌++◌, length, slice_get, Some};
+ghost use Rattle.std.specs.Prelude.{◌≡◌, ◌↔◌, ℕ, ◌+◌, ◌-◌, ◌<◌, ◌≤◌, true, List, [], ◌∷◌, ◌++◌, length, slice_get, Some};
 ghost use Rattle.std.specs.List.{Contains};
 ghost use Rattle.rdb_base.specs.declared.operation.Op.{Op};
 ghost use Rattle.rdb_base.specs.declared.operation.Reply.{Reply};
@@ -12,7 +12,7 @@ ghost use Rattle.rdb_schema.specs.declared.schema.EventKind.{EventKind};
 ghost use Rattle.rdb_model.specs.Database.{Database, Objects, empty, objects_of, row_of};
 ghost use Rattle.rdb_model.specs.Story.{same_reply, run, after};
 ghost use Rattle.rdb_model.specs.Journal.{IsLegal, commits, fold};
-ghost use Rattle.rdb_model.specs.Validation.{AreLeftAlone, RunsAfter, was_written};
+ghost use Rattle.rdb_model.specs.Validation.{AreLeftAlone, RunsAfter, IsValid, was_written};
 ghost use Rattle.rdb_model.specs.Serial.{serial_order};
 ghost use Rattle.rdb_model.specs.SerialRun.{operations_of, ReadsFit, ordered_story, ComesBefore};
 ghost use Rattle.rdb_model.specs.Events.{happened, event_ids};
@@ -39,6 +39,13 @@ pub fn untouched_story_runs_on()
     ensures { (schema : Schema) (journal : List Entry) (story : Story) (from to : ℕ) →
         IsLegal schema journal → from ≤ to → RunsAfter schema journal from story →
         AreLeftAlone schema journal from to story → RunsAfter schema journal to story }
+{}
+
+/// A commit that validation lets pass keeps a journal legal: one of a transaction whose story ran on the database that it sees,
+/// which makes each of its objects for the first time, and which no commit since touches.
+pub fn valid_commit_is_legal()
+    ensures { (schema : Schema) (journal : List Entry) (story : Story) → IsLegal schema journal → IsValid schema journal story →
+        IsLegal schema (journal ++ entry.Commit story (commits journal + 1) ∷ []) }
 {}
 
 /// The commits and reads of a legal journal, in serial order, are one run of the plain database in which every answer holds,
