@@ -9,3 +9,6 @@ pub mod Serial
 pub mod Fits
 pub mod Others
 pub mod Seek
+pub mod Validation
+pub mod SerialRun
+pub mod Events

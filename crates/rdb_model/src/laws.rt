@@ -1,13 +1,21 @@
 //! Laws of the plain database and of journals, each the contract of a function that does nothing.
 
-ghost use Rattle.std.specs.Prelude.{◌≡◌, List, ◌++◌, Some};
+ghost use Rattle.std.specs.Prelude.{◌≡◌, ◌↔◌, ℕ, ◌+◌, ◌-◌, ◌<◌, ◌≤◌, true, List, [], ◌∷◌, ◌++◌, length, slice_get, Some};
+ghost use Rattle.std.specs.List.{Contains};
 ghost use Rattle.rdb_base.specs.declared.operation.Op.{Op};
 ghost use Rattle.rdb_base.specs.declared.operation.Reply.{Reply};
+ghost use Rattle.rdb_base.specs.declared.journal.Story.{Story};
 ghost use Rattle.rdb_base.specs.declared.journal.Entry.{Entry};
+ghost use Rattle.rdb_base.specs.declared.journal.Entry.TheVariants as entry;
 ghost use Rattle.rdb_schema.specs.declared.schema.Schema.{Schema};
-ghost use Rattle.rdb_model.specs.Database.{Database};
-ghost use Rattle.rdb_model.specs.Story.{run, after};
-ghost use Rattle.rdb_model.specs.Journal.{IsLegal};
+ghost use Rattle.rdb_schema.specs.declared.schema.EventKind.{EventKind};
+ghost use Rattle.rdb_model.specs.Database.{Database, Objects, empty, objects_of, row_of};
+ghost use Rattle.rdb_model.specs.Story.{same_reply, run, after};
+ghost use Rattle.rdb_model.specs.Journal.{IsLegal, commits, fold};
+ghost use Rattle.rdb_model.specs.Validation.{AreLeftAlone, RunsAfter, IsValid, was_written};
+ghost use Rattle.rdb_model.specs.Serial.{serial_order};
+ghost use Rattle.rdb_model.specs.SerialRun.{operations_of, ReadsFit, ordered_story, ComesBefore};
+ghost use Rattle.rdb_model.specs.Events.{happened, event_ids};
 
 /// What a legal journal begins with is a legal journal.
 pub fn legal_prefix()
@@ -18,4 +26,54 @@ pub fn legal_prefix()
 pub fn run_leaves_one_database()
     ensures { (schema : Schema) (db next : Database) (done : List (Op × Reply)) →
         run schema db done ≡ Some next → after schema db done ≡ next }
+{}
+
+/// Replies that count as one are equal.
+pub fn same_replies_are_equal()
+    ensures { (a b : Reply) → same_reply a b ≡ true ↔ (a ≡ b) }
+{}
+
+/// A story that runs on the database after some commits of a legal journal runs on the one after later commits too,
+/// where none of these touches one of its operations or writes an object that it makes.
+pub fn untouched_story_runs_on()
+    ensures { (schema : Schema) (journal : List Entry) (story : Story) (from to : ℕ) →
+        IsLegal schema journal → from ≤ to → RunsAfter schema journal from story →
+        AreLeftAlone schema journal from to story → RunsAfter schema journal to story }
+{}
+
+/// A commit that validation lets pass keeps a journal legal: one of a transaction whose story ran on the database that it sees,
+/// which makes each of its objects for the first time, and which no commit since touches.
+pub fn valid_commit_is_legal()
+    ensures { (schema : Schema) (journal : List Entry) (story : Story) → IsLegal schema journal → IsValid schema journal story →
+        IsLegal schema (journal ++ entry.Commit story (commits journal + 1) ∷ []) }
+{}
+
+/// The commits and reads of a legal journal, in serial order, are one run of the plain database in which every answer holds,
+/// where its reads only read. The run ends in the database after all commits.
+pub fn serial_order_is_one_run()
+    ensures { (schema : Schema) (journal : List Entry) → IsLegal schema journal → ReadsFit schema journal →
+        run schema (empty (length schema.classes)) (operations_of (serial_order journal)) ≡ Some (fold schema journal (commits journal)) }
+{}
+
+/// What had ended when a transaction began comes before it in serial order: in a legal journal a commit or read that stands
+/// among the first `begun` entries of another comes before that other.
+pub fn ended_transactions_come_first()
+    ensures { (schema : Schema) (journal : List Entry) (i j : ℕ) (earlier later : Entry) (first second : Story) →
+        IsLegal schema journal → slice_get journal i ≡ Some earlier → slice_get journal j ≡ Some later →
+        ordered_story earlier ≡ Some first → ordered_story later ≡ Some second →
+        i < second.begun → ComesBefore (serial_order journal) first second }
+{}
+
+/// The ids of an event are those of the objects to which it happened, and no others.
+pub fn events_are_what_happened()
+    ensures { (kind : EventKind) (before after : Objects) (id : ℕ) →
+        Contains (event_ids kind before after) id ↔ (happened kind (row_of before id) (row_of after id) ≡ true) }
+{}
+
+/// An event of a commit of a legal journal happens to an object that the commit wrote.
+pub fn events_are_of_written_objects()
+    ensures { (schema : Schema) (journal : List Entry) (own : Story) (commit : ℕ) (kind : EventKind) (class id : ℕ) →
+        IsLegal schema journal → Contains journal (entry.Commit own commit) →
+        happened kind (row_of (objects_of (fold schema journal (commit - 1)) class) id) (row_of (objects_of (fold schema journal commit) class) id) ≡ true →
+        was_written own.done (class, id) ≡ true }
 {}
