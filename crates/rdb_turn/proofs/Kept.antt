@@ -17,8 +17,8 @@ use Rattle.rdb_base.specs.declared.chronicle.Chronicle.{Ghosts}
 use Rattle.rdb_turn.specs.declared.view.View.{View}
 use Rattle.rdb_turn.specs.declared.view.Stand.{Stand}
 use Rattle.rdb_turn.specs.declared.view.Stand.TheVariants.{Away, Waits, Inside}
-use Rattle.rdb_turn.specs.Rule.{turns_held, tickets_out, first_view, held_of, out_of, shares_of, IsClient, IsStopped, Owns, OwnsSlot, Follows, FollowsAll, KeepsPart, Stands, KnowsParts, Knows, Keeps}
-use Rattle.rdb_turn.specs.Steps.{Mine, standing, seeing, knowing, left_in, Draws, Looks, Raises, Releases, Fronts, Settles, Marks, Stops, Sees, MayLeave, MayRaise, MayRelease, longer, entered, published, half_kept, half_given, part_kept, part_given, both_views, spent_view}
+use Rattle.rdb_turn.specs.Rule.{is_inside, turns_held, tickets_out, first_view, held_of, out_of, shares_of, IsClient, IsStopped, Owns, OwnsSlot, Follows, FollowsAll, KeepsPart, Stands, KnowsParts, Knows, Keeps}
+use Rattle.rdb_turn.specs.Steps.{Mine, standing, seeing, knowing, left_in, Draws, Looks, Raises, Releases, Fronts, KeepsFirst, KeepsSecond, Marks, Stops, Sees, MayLeave, MayRaise, MayRelease, entered, published, half_kept, half_given, part_kept, part_given, both_views, spent_view}
 use Rattle.rdb_turn.proofs.Beginnings.{follows_itself, follows_further, follows_between, all_further, all_of_both, part_further}
 use Rattle.rdb_turn.proofs.Parts.{owned_below, owned_left, owned_both, owned_without, owned_only}
 use Rattle.rdb_turn.proofs.Sums.{sum_set, sum_at, sum_below, sum_none}
@@ -163,15 +163,6 @@ module _ {T E B P : Type 0} (c : Ghosts T E B P) (made : T) (boarded : Bool) whe
   one_each Away = omega arith
   one_each (Waits n) = omega arith
   one_each (Inside n) = omega arith
-
-  chosen : (a b d : T) → Follows c a d → Follows c b d → (t : Bool) → nat_lt (length (c.history a)) (length (c.history b)) ≡ t
-      → Follows c a (cond t b a) × Follows c b (cond t b a) × Follows c (cond t b a) d
-  chosen a b d p q true less = let le : length (c.history a) ≤ length (c.history b) = grind (arith, nat_tests, less) in (follows_between c a b d p q le, follows_itself c b, q)
-  chosen a b d p q false less = let le : length (c.history b) ≤ length (c.history a) = grind (arith, nat_tests, less) in (follows_itself c a, follows_between c b a d q p le, p)
-
-  -- of two values that one comes of, the longer comes of both
-  between : (a b d : T) → Follows c a d → Follows c b d → Follows c a (longer c a b) × Follows c b (longer c a b) × Follows c (longer c a b) d
-  between a b d p q = chosen a b d p q (nat_lt (length (c.history a)) (length (c.history b))) refl
 
   -- where another has drawn the ticket that is served, none is inside
   outside : (drawn served : ℕ) (owner : ℕ → ℕ) (now : T) (id j : ℕ) (seen : List T) (stand : Stand)
@@ -439,22 +430,38 @@ module _ {T E B P : Type 0} (c : Ghosts T E B P) (made : T) (boarded : Bool) whe
           (r.now, refl, ap (λ (ws : List ℕ). get_or ws 2 0) r.words, k.follows, saw_now r.drawn r.served r.owner r.now me.0.seen me.0.stand k.stands),
         )
 
-    pub settles : (a b : T) → me.0.stand ≡ Away → me.0.seen ≡ a ∷ b ∷ [] → Allows Rule slots id me 1 (λ n. n) (λ _ after. Settles c me after)
-    settles a b away two s r count at low =
+    pub keeps_first : (a b : T) → me.0.stand ≡ Away → me.0.seen ≡ a ∷ b ∷ [] → length (c.history b) ≤ length (c.history a) → Allows Rule slots id me 1 (λ n. n) (λ _ after. KeepsFirst c me after)
+    keeps_first a b away two le s r count at low =
         let k = r.knows id me.0 at in
         let goes = subst (λ (xs : List T). FollowsAll c xs r.now) two k.follows in
-        let far = between a b r.now goes.0 goes.1.0 in
-        let w = seeing me.0 (longer c a b) in (
+        let w = seeing me.0 a in (
           w,
           keeps,
           tt,
-          unmoved s r id me.0 w (set s.words 1 (get_or s.words 1 0)) at (set-get_or s.words 1 0) refl refl (far.2, tt)
-              (subst (Stands c r.drawn r.served r.owner r.now id (longer c a b ∷ [])) (sym away) tt) k.knows,
+          unmoved s r id me.0 w (set s.words 1 (get_or s.words 1 0)) at (set-get_or s.words 1 0) refl refl (goes.0, tt)
+              (subst (Stands c r.drawn r.served r.owner r.now id (a ∷ [])) (sym away) tt) k.knows,
           λ x y is.
               let first : a ≡ x = cc (two, is) in
               let second : b ≡ y = cc (two, is) in
-              subst (λ (p : T × T). (◌≡◌ {A = Mine T} (w, me.1) (seeing me.0 (longer c p.0 p.1), me.1)) × Follows c p.0 (longer c p.0 p.1) × Follows c p.1 (longer c p.0 p.1))
-              (λ i. (first i, second i)) (refl, far.0, far.1),
+              subst (λ (p : T × T). (◌≡◌ {A = Mine T} (w, me.1) (seeing me.0 p.0, me.1)) × Follows c p.1 p.0)
+              (λ i. (first i, second i)) (refl, follows_between c b a r.now goes.1.0 goes.0 le),
+        )
+
+    pub keeps_second : (a b : T) → me.0.stand ≡ Away → me.0.seen ≡ a ∷ b ∷ [] → length (c.history a) ≤ length (c.history b) → Allows Rule slots id me 1 (λ n. n) (λ _ after. KeepsSecond c me after)
+    keeps_second a b away two le s r count at low =
+        let k = r.knows id me.0 at in
+        let goes = subst (λ (xs : List T). FollowsAll c xs r.now) two k.follows in
+        let w = seeing me.0 b in (
+          w,
+          keeps,
+          tt,
+          unmoved s r id me.0 w (set s.words 1 (get_or s.words 1 0)) at (set-get_or s.words 1 0) refl refl (goes.1.0, tt)
+              (subst (Stands c r.drawn r.served r.owner r.now id (b ∷ [])) (sym away) tt) k.knows,
+          λ x y is.
+              let first : a ≡ x = cc (two, is) in
+              let second : b ≡ y = cc (two, is) in
+              subst (λ (p : T × T). (◌≡◌ {A = Mine T} (w, me.1) (seeing me.0 p.1, me.1)) × Follows c p.0 p.1)
+              (λ i. (first i, second i)) (refl, follows_between c a b r.now goes.0 goes.1.0 le),
         )
 
     pub marks : (slot : ℕ) → Allows Rule slots id me 0 (λ n. either (eqb n slot) slot n) (λ _ after. Marks slot me after)
@@ -726,6 +733,24 @@ module _ {T E B P : Type 0} (c : Ghosts T E B P) (made : T) (boarded : Bool) whe
             here);
         home = λ zero. r.home (omega (arith, held, held', none_held', zero));
       }
+
+  -- where all tickets are served, none is out and the value is at home
+  pub all_served : (s : St) (r : Rule s) → get_elem? s.words 1 ≡ get_elem? s.words 0 → (sum_by out_of s.views ≡ 0) × (s.homes ≡ some (Some r.now) ∷ [])
+  all_served s r same =
+      let few = few_out s r in
+      let words : r.served % 2 ^ 64 ≡ r.drawn % 2 ^ 64 = some-injective _ _ (ap (λ (l : List ℕ). get_elem? l 1) (sym r.words) ∙ (same ∙ ap (λ (l : List ℕ). get_elem? l 0) r.words)) in
+      let done : r.served ≡ r.drawn = one_turn r.served r.drawn (2 ^ 64) (omega (arith, r.out)) few words in
+      let below = sum_below held_of out_of s.views (λ i u _. one_each u.stand) in
+      (omega (arith, r.out, done), r.home (omega (arith, r.out, done, below)))
+
+  -- who has no ticket out is not inside
+  none_inside : (stand : Stand) → tickets_out stand ≡ 0 → is_inside stand ≡ false
+  none_inside Away none = refl
+  none_inside (Waits n) none = refl
+  none_inside (Inside n) none = absurd (omega arith)
+
+  pub not_inside : (s : St) (r : Rule s) (id : ℕ) (v : View T) → get_elem? s.views id ≡ some v → sum_by out_of s.views ≡ 0 → is_inside v.stand ≡ false
+  not_inside s r id v at none = let mine = sum_at out_of s.views id v at in none_inside v.stand (omega (arith, mine, none))
 
   -- where all tickets are served, the value is at home, and follows what each pass has seen
   pub closes : (ws : List ℕ) (xs : List (Option T)) (id : ℕ) (v : View T) (ticket serving : ℕ) → Final (Seen Rule id v) ws xs → get_elem? ws 0 ≡ some ticket → get_elem? ws 1 ≡ some serving → ticket ≡ serving

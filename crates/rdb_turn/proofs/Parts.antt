@@ -70,3 +70,24 @@ module _ {T : Type 0} where
 
   pub owns_cut : (ps : List (ℕ × T)) (slot : ℕ) → OwnsSlot ps slot → OwnsSlot (only slot ps) slot
   owns_cut ps slot h = (h.0, owns_only ps slot h.0 h.1)
+
+  stays_step : (cut : ℕ) (p : ℕ × T) (ps : List (ℕ × T)) (slot : ℕ) (x : T) → slot ≢ cut → (Owns ps slot x → Owns (without cut ps) slot x) → (t : Bool) → eqb p.0 cut ≡ t
+      → Owns (p ∷ ps) slot x → Owns (cond (not t) (p ∷ without cut ps) (without cut ps)) slot x
+  stays_step cut p ps slot x ne rec true is (inl e) = let same : p.0 ≡ cut = grind (arith, nat_tests, is) in absurd (ne (sym e.0 ∙ same))
+  stays_step cut p ps slot x ne rec true is (inr h) = rec h
+  stays_step cut p ps slot x ne rec false is (inl e) = inl e
+  stays_step cut p ps slot x ne rec false is (inr h) = inr (rec h)
+
+  stays : (cut : ℕ) (ps : List (ℕ × T)) (slot : ℕ) (x : T) → slot ≢ cut → Owns ps slot x → Owns (without cut ps) slot x
+  stays cut [] slot x ne h = h
+  stays cut (p ∷ ps) slot x ne h = stays_step cut p ps slot x ne (stays cut ps slot x ne) (eqb p.0 cut) refl h
+
+  -- the parts of other slots stay with their owner
+  pub owns_without : (cut : ℕ) (ps : List (ℕ × T)) (slot : ℕ) → slot ≢ cut → OwnsSlot ps slot → OwnsSlot (without cut ps) slot
+  owns_without cut ps slot ne h = (h.0, stays cut ps slot h.0 ne h.1)
+
+  -- a part that was owned is owned as it was left
+  pub owns_left : (ps : List (ℕ × T)) (value : T) (slot : ℕ) → OwnsSlot ps slot → Owns (left_in ps value) slot value
+  owns_left [] value slot h = absurd h.1
+  owns_left (p ∷ ps) value slot (x, inl e) = inl (e.0, refl)
+  owns_left (p ∷ ps) value slot (x, inr h) = inr (owns_left ps value slot (x, h))

@@ -1,7 +1,8 @@
 -- What a pass knows after a call on its turn.
-use Rattle.std.proofs.Common.{◌≡◌, ℕ, ◌+◌, ◌%◌, ◌^◌, ◌⊎◌, Bool, true, false, cond, nat_lt, List, [], ◌∷◌, ◌++◌, length, refl, ap, sym, ◌∙◌, subst, inl, inr, Option, Some, None, Contains}
+use Rattle.std.proofs.Common.{◌≡◌, ◌≢◌, ℕ, ◌+◌, ◌%◌, ◌^◌, ◌⊎◌, Bool, true, false, List, [], ◌∷◌, ◌++◌, length, refl, ap, sym, ◌∙◌, subst, inl, inr, Option, Some, None, Contains}
 use mathlib.Core.List.{IsPrefix}
 use mathlib.Core.Option.{some, some-injective}
+use mathlib.Core.Option as maybe
 use lib.ListN.{get_elem?}
 use Rattle.std.proofs.Math.Nat.{mod-add-mod}
 use Rattle.atomic_table.specs.Table.{Final, Seen}
@@ -10,9 +11,12 @@ use Rattle.rdb_turn.specs.declared.view.View.{View}
 use Rattle.rdb_turn.specs.declared.view.Stand.{Stand}
 use Rattle.rdb_turn.specs.declared.view.Stand.TheVariants.{Away, Waits, Inside}
 use Rattle.rdb_turn.specs.Rule.{is_inside, Follows, FollowsAll, KeepsPart, OwnsSlot, IsClient, Keeps}
-use Rattle.rdb_turn.specs.Steps.{Mine, standing, seeing, published, Welcomes, Raises, Settles, MayLeave, MayRaise, MayRelease, longer, both_views}
-use Rattle.rdb_turn.specs.Passes.{Fits, history_of}
-use Rattle.rdb_turn.proofs.Kept.{closes, slot_of}
+use Rattle.rdb_turn.specs.Steps.{Mine, standing, seeing, published, Welcomes, Raises, KeepsFirst, KeepsSecond, Settles, MayLeave, MayRaise, MayRelease, both_views}
+use Rattle.rdb_turn.specs.declared.pass.Pass.{Pass}
+use Rattle.rdb_turn.specs.declared.turn.Turn.{Turn}
+use Rattle.rdb_turn.specs.Passes.{Fits, history_of, EndsServed, EndsOut}
+use Rattle.rdb_turn.proofs.Beginnings.{follows_itself}
+use Rattle.rdb_turn.proofs.Kept.{closes, slot_of, all_served, not_inside}
 
 -- the pass with the turn has a ticket and the emptied slot
 pub inside_at : {T : Type 0} (ticket : ℕ) (carried : List (ℕ × Option T)) (stand : Stand) → Fits ticket carried stand → is_inside stand ≡ true
@@ -68,21 +72,26 @@ module _ {T E B P : Type 0} (c : Ghosts T E B P) where
   may_release v value m n ticket next inside drawn is was =
       (n, value, ap (λ (k : Mine T). k.0.stand) was ∙ inside, ap (λ (k : Mine T). k.0.seen) was, ap (λ (k : Mine T). k.1) was, is ∙ (ap (λ (t : ℕ). (t + 1) % 2 ^ 64) (sym drawn) ∙ mod-add-mod n (2 ^ 64) 1))
 
-  one_of_two : (a b : T) (t : Bool) → (cond t b a ≡ a) ⊎ (cond t b a ≡ b)
-  one_of_two a b true = inr refl
-  one_of_two a b false = inl refl
+  -- which of two values is kept, once it is known which history is longer
+  pub settled_first : (a b : T) (m n : Mine T) (long : ℕ) → m.0.seen ≡ a ∷ b ∷ [] → long ≡ length (c.history a) → KeepsFirst c m n → Settles c m long n
+  settled_first a b m n long two is tells = λ x y seen.
+      let told = tells x y seen in
+      let first : a ≡ x = cc (two, seen) in
+      record { kept = x; one = inl refl; seen = told.0; of_first = follows_itself c x; of_second = told.1; counted = is ∙ ap (λ z. length (c.history z)) first }
 
-  -- the longer of two is one of them
-  pub longer_is : (a b : T) → (longer c a b ≡ a) ⊎ (longer c a b ≡ b)
-  longer_is a b = one_of_two a b (nat_lt (length (c.history a)) (length (c.history b)))
+  pub settled_second : (a b : T) (m n : Mine T) (long : ℕ) → m.0.seen ≡ a ∷ b ∷ [] → long ≡ length (c.history b) → KeepsSecond c m n → Settles c m long n
+  settled_second a b m n long two is tells = λ x y seen.
+      let told = tells x y seen in
+      let second : b ≡ y = cc (two, seen) in
+      record { kept = y; one = inr refl; seen = told.0; of_first = told.1; of_second = follows_itself c y; counted = is ∙ ap (λ z. length (c.history z)) second }
 
   -- what a pass knows once it has met another
-  pub met : (v w : View T) (a b : T) (carried : List (ℕ × Option T)) (m n : Mine T) → v.seen ≡ a ∷ [] → w.seen ≡ b ∷ [] → m ≡ (both_views v w, carried) → Settles c m n
-      → (◌≡◌ {A = Mine T} n (seeing (both_views v w) (longer c a b), carried)) × Follows c a (longer c a b) × Follows c b (longer c a b)
-  met v w a b carried m n saw saw' was tells =
+  pub met : (v w : View T) (a b : T) (carried : List (ℕ × Option T)) (m n : Mine T) (long : ℕ) → v.seen ≡ a ∷ [] → w.seen ≡ b ∷ [] → m ≡ (both_views v w, carried) → Settles c m long n
+      → (kept : T) × ((kept ≡ a) ⊎ (kept ≡ b)) × (◌≡◌ {A = Mine T} n (seeing (both_views v w) kept, carried)) × Follows c a kept × Follows c b kept × (long ≡ length (c.history kept))
+  met v w a b carried m n long saw saw' was tells =
       let two : m.0.seen ≡ a ∷ b ∷ [] = ap (λ (k : Mine T). k.0.seen) was ∙ (λ i. saw i ++ saw' i) in
       let told = tells a b two in
-      (told.0 ∙ ap (λ (k : Mine T). (seeing k.0 (longer c a b), k.1)) was, told.1, told.2)
+      (told.kept, told.one, told.seen ∙ ap (λ (k : Mine T). (seeing k.0 told.kept, k.1)) was, told.of_first, told.of_second, told.counted)
 
   -- what is found as the turn ends
   pub ends : (made latest : T) (boarded : Bool) (ws : List ℕ) (xs : List (Option T)) (id : ℕ) (v : View T) (ticket serving : ℕ) (out : Option T)
@@ -92,3 +101,31 @@ module _ {T E B P : Type 0} (c : Ghosts T E B P) where
       let end = closes c made boarded ws xs id v ticket serving final first second same in
       let follows = subst (λ (l : List T). FollowsAll c l end.0) saw end.3 in
       (end.0, some-injective out (Some end.0) (sym there ∙ end.1), end.2.1, subst (λ (l : List T). IsPrefix (history_of c.history l) (c.history end.0)) (sym saw) follows.0.0)
+
+  -- what is told as the turn ends, where tickets are out
+  pub ends_out : (turn : Turn T E B P) (pass : Pass T) (ws : List ℕ) (xs : List (Option T)) (ticket serving : ℕ)
+      → Final (Seen (Keeps c turn.table.shared.key.made.value turn.table.shared.key.boarded) pass.place.id pass.place.me.0) ws xs → get_elem? ws 0 ≡ some ticket → get_elem? ws 1 ≡ some serving → ticket ≢ serving
+      → EndsOut c turn pass ticket serving
+  ends_out turn pass ws xs ticket serving (s, (r, at), words, count, values) first second out = record {
+    table = s;
+    is_table = record { keeps = r; knows = at };
+    drawn = ap (λ (l : List ℕ). get_elem? l 0) words ∙ first;
+    served = ap (λ (l : List ℕ). get_elem? l 1) words ∙ second;
+    differ = out;
+  }
+
+  -- and where all are served
+  pub ends_served : (turn : Turn T E B P) (pass : Pass T) (ws : List ℕ) (xs : List (Option T)) (ticket serving : ℕ) (out : Option T) (value : T)
+      → Final (Seen (Keeps c turn.table.shared.key.made.value turn.table.shared.key.boarded) pass.place.id pass.place.me.0) ws xs → get_elem? ws 0 ≡ some ticket → get_elem? ws 1 ≡ some serving → ticket ≡ serving
+      → get_elem? xs 0 ≡ some out → out ≡ Some value → EndsServed c turn pass value × (is_inside pass.place.me.0.stand ≡ false)
+  ends_served turn pass ws xs ticket serving out value (s, (r, at), words, count, values) first second same there is =
+      let made = turn.table.shared.key.made.value in
+      let boarded = turn.table.shared.key.boarded in
+      let equal : get_elem? s.words 1 ≡ get_elem? s.words 0 = (ap (λ (l : List ℕ). get_elem? l 1) words ∙ second) ∙ (ap some (sym same) ∙ sym (ap (λ (l : List ℕ). get_elem? l 0) words ∙ first)) in
+      let end = all_served c made boarded s r equal in
+      let home : get_elem? xs 0 ≡ some (Some r.now) = values 0 (Some r.now) (ap (λ (hs : List (maybe.Option (Option T))). get_elem? hs 0) end.1) in
+      let both : Some r.now ≡ Some value = some-injective (Some r.now) out (sym home ∙ there) ∙ is in
+      let last : r.now ≡ value = cc both in (
+        record { table = s; is_table = record { keeps = r; knows = at }; served = equal; home = end.1 ∙ ap (λ (x : T). some (Some x) ∷ []) last },
+        not_inside c made boarded s r pass.place.id pass.place.me.0 at end.0,
+      )

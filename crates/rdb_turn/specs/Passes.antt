@@ -1,11 +1,15 @@
 -- What contracts say of a pass and its turn.
-use Rattle.std.specs.Prelude.{◌≡◌, ℕ, ◌%◌, ◌^◌, ◌<◌, ◌≤◌, List, [], ◌∷◌, Option, None, Bool, true, false}
+use Rattle.std.specs.Prelude.{◌≡◌, ◌≢◌, ℕ, ◌%◌, ◌^◌, ◌<◌, ◌≤◌, List, [], ◌∷◌, length, Option, Some, None, Bool, true, false}
+use mathlib.Core.Option.{some}
+use lib.ListN.{get_elem?}
+use Rattle.atomic_table.specs.Table.{State}
 use Rattle.rdb_base.specs.declared.chronicle.Chronicle.{Ghosts}
 use Rattle.rdb_turn.specs.declared.pass.Pass.{Pass}
 use Rattle.rdb_turn.specs.declared.turn.Turn.{Turn}
+use Rattle.rdb_turn.specs.declared.view.View.{View}
 use Rattle.rdb_turn.specs.declared.view.Stand.{Stand}
 use Rattle.rdb_turn.specs.declared.view.Stand.TheVariants.{Away, Waits, Inside}
-use Rattle.rdb_turn.specs.Rule.{is_inside, OwnsSlot, parts_below}
+use Rattle.rdb_turn.specs.Rule.{is_inside, OwnsSlot, parts_below, Keeps}
 
 -- what a pass holds of the slot, and its last ticket, fit where it stands: between two calls no pass waits
 abbrev pub Fits : {T : Type 0} → ℕ → List (ℕ × Option T) → Stand → Type 0
@@ -63,12 +67,33 @@ module _ {T E B P : Type 0} (c : Ghosts T E B P) where
     pub table : pass.place.table_id ≡ turn.table.shared.table_id
     pub latest : T
     pub seen_last : pass.place.me.0.seen ≡ latest ∷ []
+    pub counted : pass.length ≡ length (c.history latest)
     pub based : c.base latest ≡ base_of turn
     pub boarded : pass.place.me.0.boarded ≡ turn.boarded
     pub some_share : 0 < pass.shares
     pub shares : pass.shares ≤ pass.place.me.0.shares
     pub fits : Fits pass.ticket pass.place.me.1 pass.place.me.0.stand
     pub inside : is_inside pass.place.me.0.stand ≡ true → pass.place.me.0.gone ≡ c.gone latest
+
+  -- as the turn ends, its table may be this one: it keeps the rule, and in it the pass knows what it knows
+  pub record IsTableOf (turn : Turn T E B P) (pass : Pass T) (table : State (Option T) (View T)) : Type 0 where
+    pub keeps : Keeps c turn.table.shared.key.made.value turn.table.shared.key.boarded table
+    pub knows : get_elem? table.views pass.place.id ≡ some pass.place.me.0
+
+  -- the turn ends with as many tickets served as were drawn, and with this value in its slot
+  pub record EndsServed (turn : Turn T E B P) (pass : Pass T) (value : T) : Type 0 where
+    pub table : State (Option T) (View T)
+    pub is_table : IsTableOf turn pass table
+    pub served : get_elem? table.words 1 ≡ get_elem? table.words 0
+    pub home : table.homes ≡ some (Some value) ∷ []
+
+  -- the turn ends with these tickets drawn and served, modulo 2^64, which differ
+  pub record EndsOut (turn : Turn T E B P) (pass : Pass T) (ticket serving : ℕ) : Type 0 where
+    pub table : State (Option T) (View T)
+    pub is_table : IsTableOf turn pass table
+    pub drawn : get_elem? table.words 0 ≡ some ticket
+    pub served : get_elem? table.words 1 ≡ some serving
+    pub differ : ticket ≢ serving
 
 -- whether the turn was made with a board
 abbrev pub is_boarded : {T E B P : Type 0} → Turn T E B P → Bool

@@ -1,5 +1,5 @@
 -- What each kind of step tells the one who steps: of the pass before, the number found and the pass after.
-use Rattle.std.specs.Prelude.{◌≡◌, ◌≢◌, ◌⊎◌, ℕ, ◌+◌, ◌-◌, ◌/◌, ◌%◌, ◌^◌, List, [], ◌∷◌, ◌++◌, length, map, filter, not, ◌==◌, Contains, Option, Some, true, false, nat_lt, if◌then◌else◌}
+use Rattle.std.specs.Prelude.{◌≡◌, ◌≢◌, ◌⊎◌, ℕ, ◌+◌, ◌-◌, ◌/◌, ◌%◌, ◌^◌, List, [], ◌∷◌, ◌++◌, length, map, filter, not, ◌==◌, Contains, Option, Some, true, false}
 use Rattle.atomic_table.specs.Table.{Me, rest}
 use Rattle.atomic_table.specs.Seated.{TableId}
 use Rattle.atomic_table.specs.declared.shared.Seat.{Seat}
@@ -92,10 +92,6 @@ module _ {T : Type 0} where
   spent_view = record { seen = []; shares = 0; stand = Away; owned = []; gone = []; stopped = []; boarded = false; parting = 0 }
 
 module _ {T E B P : Type 0} (c : Ghosts T E B P) where
-  -- the value with the longer history, the first where they are alike
-  abbrev pub longer : T → T → T
-  longer a b = if nat_lt (length (c.history a)) (length (c.history b)) then b else a
-
   -- the pass has taken the value, with this ticket
   abbrev pub entered : View T → T → ℕ → View T
   entered v value n = record v { seen = value ∷ []; stand = Inside n; gone = c.gone value }
@@ -138,6 +134,26 @@ module _ {T E B P : Type 0} (c : Ghosts T E B P) where
   abbrev pub Fronts : Mine T → ℕ → Mine T → Type 0
   Fronts me found after = (value : T) × (after ≡ (seeing me.0 value, me.1)) × (found ≡ length (c.history value)) × FollowsAll c me.0.seen value × (turns_held me.0.stand ≡ 1 → me.0.seen ≡ value ∷ [])
 
-  -- of two values that were seen, the longer is kept
-  abbrev pub Settles : Mine T → Mine T → Type 0
-  Settles me after = (a b : T) → me.0.seen ≡ a ∷ b ∷ [] → (after ≡ (seeing me.0 (longer a b), me.1)) × Follows c a (longer a b) × Follows c b (longer a b)
+  -- of two values that were seen the first is kept, which comes of the other
+  abbrev pub KeepsFirst : Mine T → Mine T → Type 0
+  KeepsFirst me after = (a b : T) → me.0.seen ≡ a ∷ b ∷ [] → (after ≡ (seeing me.0 a, me.1)) × Follows c b a
+
+  -- the second is kept
+  abbrev pub KeepsSecond : Mine T → Mine T → Type 0
+  KeepsSecond me after = (a b : T) → me.0.seen ≡ a ∷ b ∷ [] → (after ≡ (seeing me.0 b, me.1)) × Follows c a b
+
+  -- two values were seen, whose histories have these lengths
+  abbrev pub SawTwo : Mine T → ℕ → ℕ → Type 0
+  SawTwo me first second = (a b : T) × (me.0.seen ≡ a ∷ b ∷ []) × (first ≡ length (c.history a)) × (second ≡ length (c.history b))
+
+  -- one of the two is kept, which comes of both; its history has this length
+  pub record Settled (me : Mine T) (a b : T) (long : ℕ) (after : Mine T) : Type 0 where
+    pub kept : T
+    pub one : (kept ≡ a) ⊎ (kept ≡ b)
+    pub seen : after ≡ (seeing me.0 kept, me.1)
+    pub of_first : Follows c a kept
+    pub of_second : Follows c b kept
+    pub counted : long ≡ length (c.history kept)
+
+  abbrev pub Settles : Mine T → ℕ → Mine T → Type 0
+  Settles me long after = (a b : T) → me.0.seen ≡ a ∷ b ∷ [] → Settled me a b long after

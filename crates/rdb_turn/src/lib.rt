@@ -2,6 +2,7 @@
 //! whose history begins with all that the entering pass has seen. It knows nothing of what the value is.
 #![tactic(auto)]
 
+mod crossing;
 mod pass;
 mod plays;
 mod rule;

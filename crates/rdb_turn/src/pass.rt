@@ -6,6 +6,8 @@ use crate::rule::Place;
 #[derive(Drop)]
 pub struct Pass<T> {
     pub(crate) place: Place<T>,
+    /// How long the history is that it has seen.
+    pub(crate) length: u64,
     /// How many turns it has entered, as far as the type counts.
     pub(crate) turns: u64,
     /// How many passes it may become.

@@ -1,6 +1,6 @@
 //! What each kind of step tells the one who steps.
 ghost use Rattle.std.specs.Prelude.{◌-◌};
-ghost use Rattle.rdb_turn.specs.Steps.{Draws, Looks, Raises, Releases, Fronts, Settles, Marks, Stops, Sees, half_kept, half_given, part_kept, part_given, both_views, spent_view};
+ghost use Rattle.rdb_turn.specs.Steps.{Draws, Looks, Raises, Releases, Fronts, KeepsFirst, KeepsSecond, Marks, Stops, Sees, half_kept, half_given, part_kept, part_given, both_views, spent_view};
 
 use crate::view::View;
 use atomic_table::{Join, Play, Split};
@@ -41,11 +41,18 @@ impl<T: Chronicle> Play<Option<T>, View<T>> for Front {
     ghost then = { λ _ me found after. Fronts T.Chronicle me found after };
 }
 
-/// Keeps the longer of two values that were seen.
-pub(crate) struct Settle;
+/// Keeps the first of two values that were seen.
+pub(crate) struct KeepFirst;
 
-impl<T: Chronicle> Play<Option<T>, View<T>> for Settle {
-    ghost then = { λ _ me _ after. Settles T.Chronicle me after };
+impl<T: Chronicle> Play<Option<T>, View<T>> for KeepFirst {
+    ghost then = { λ _ me _ after. KeepsFirst T.Chronicle me after };
+}
+
+/// Keeps the second of two values that were seen.
+pub(crate) struct KeepSecond;
+
+impl<T: Chronicle> Play<Option<T>, View<T>> for KeepSecond {
+    ghost then = { λ _ me _ after. KeepsSecond T.Chronicle me after };
 }
 
 /// Notes the slot whose part is cut off next, which is the operand.

@@ -1,11 +1,11 @@
 //! One function for each kind of step on the lock's words and its slot. What a step tells is said of the pass's view.
-ghost use Rattle.std.specs.Prelude.{◌≡◌, ℕ, ◌+◌, ◌<◌, ◌≤◌, [], ◌∷◌, Some, None, true};
+ghost use Rattle.std.specs.Prelude.{◌≡◌, ℕ, ◌+◌, ◌<◌, ◌≤◌, [], ◌∷◌, Some, None, true, length};
 ghost use Rattle.rdb_turn.specs.declared.view.Stand.TheVariants.{Away, Waits};
 ghost use Rattle.rdb_turn.specs.Rule.{OwnsSlot, IsClient};
-ghost use Rattle.rdb_turn.specs.Steps.{IsAt, IsSamePlace, MayRaise, MayRelease, Draws, Looks, Raises, Releases, Fronts, Settles, Marks, Stops, Sees, half_kept, half_given, part_kept, part_given, both_views};
+ghost use Rattle.rdb_turn.specs.Steps.{IsAt, IsSamePlace, MayRaise, MayRelease, Draws, Looks, Raises, Releases, Fronts, KeepsFirst, KeepsSecond, SawTwo, Settles, Marks, Stops, Sees, half_kept, half_given, part_kept, part_given, both_views};
 
 use crate::plays::{
-    Both, Draw, Front, Halves, Look, Mark, Parts, Raise, Release, See, Settle, Stop,
+    Both, Draw, Front, Halves, KeepFirst, KeepSecond, Look, Mark, Parts, Raise, Release, See, Stop,
 };
 use crate::rule::{Board, Place};
 use rdb_base::chronicle::Chronicle;
@@ -140,15 +140,47 @@ pub(crate) fn unite<T: Chronicle>(board: &Board<T>, place: &mut Place<T>, other:
     board.join_seat::<Both>(place, other);
 }
 
-/// Keeps the longer of the two values that a pass has seen.
-pub(crate) fn settle<T: Chronicle>(board: &Board<T>, place: &mut Place<T>)
+/// Keeps the first of the two values that a pass has seen, whose history is no shorter.
+pub(crate) fn keep_first<T: Chronicle>(board: &Board<T>, place: &mut Place<T>)
     requires table { IsAt board.now.table_id place.old }
     requires away { place.old.me.0.stand ≡ Away }
-    requires two { (a : T) × (b : T) × (place.old.me.0.seen ≡ a ∷ b ∷ []) }
+    requires two { (a : T) × (b : T) × (place.old.me.0.seen ≡ a ∷ b ∷ []) × (length (T.history b) ≤ length (T.history a)) }
     ensures same { IsSamePlace place.old place.new }
-    ensures settled { Settles T.Chronicle place.old.me place.new.me }
+    ensures kept { KeepsFirst T.Chronicle place.old.me place.new.me }
 {
-    board.load::<Settle>(place, SERVING);
+    board.load::<KeepFirst>(place, SERVING);
+}
+
+/// Keeps the second of the two values that a pass has seen, whose history is no shorter.
+pub(crate) fn keep_second<T: Chronicle>(board: &Board<T>, place: &mut Place<T>)
+    requires table { IsAt board.now.table_id place.old }
+    requires away { place.old.me.0.stand ≡ Away }
+    requires two { (a : T) × (b : T) × (place.old.me.0.seen ≡ a ∷ b ∷ []) × (length (T.history a) ≤ length (T.history b)) }
+    ensures same { IsSamePlace place.old place.new }
+    ensures kept { KeepsSecond T.Chronicle place.old.me place.new.me }
+{
+    board.load::<KeepSecond>(place, SERVING);
+}
+
+/// Keeps the longer of the two values that a pass has seen, and answers its length. `first` and `second` are the lengths of both.
+pub(crate) fn settle<T: Chronicle>(
+    board: &Board<T>,
+    place: &mut Place<T>,
+    first: u64,
+    second: u64,
+) -> u64
+    requires table { IsAt board.now.table_id place.old }
+    requires away { place.old.me.0.stand ≡ Away }
+    requires two { SawTwo T.Chronicle place.old.me first second }
+    ensures same { IsSamePlace place.old place.new }
+    ensures settled { Settles T.Chronicle place.old.me result place.new.me }
+{
+    if first < second {
+        keep_second(board, place);
+        return second;
+    }
+    keep_first(board, place);
+    first
 }
 
 /// Writes the word of a client whose part the pass owns.

@@ -40,7 +40,7 @@ impl<T: Chronicle> Turn<T> {
     ghost use mathlib.Core.List.{IsPrefix};
     ghost use Rattle.rdb_turn.specs.Rule.{IsClient, Owns, OwnsSlot, KeepsPart};
     ghost use Rattle.rdb_turn.specs.Steps.{left_in, without, only};
-    ghost use Rattle.rdb_turn.specs.Passes.{known, seen, founder, IsPassOf, base_of, is_boarded};
+    ghost use Rattle.rdb_turn.specs.Passes.{known, seen, founder, IsPassOf, base_of, is_boarded, EndsServed, EndsOut};
 
     /// Lays out a lock, with or without a board.
     fn lay(alloc: Global, value: T, boarded: bool) -> Result<(Turn<T>, Pass<T>), NoMemory>
@@ -62,6 +62,7 @@ impl<T: Chronicle> Turn<T> {
         };
         let pass = Pass {
             place,
+            length,
             turns: 0,
             shares: u64::MAX,
             client: 0,
@@ -118,7 +119,9 @@ impl<T: Chronicle> Turn<T> {
         wait_for(rt, board, &mut pass.place, ticket);
         pass.ticket = ticket;
         pass.turns = pass.turns.saturating_add(1);
-        take(board, &mut pass.place)
+        let value = take(board, &mut pass.place);
+        pass.length = value.length();
+        value
     }
 
     /// Gives the value back, publishes the length of its history, and lets the next one enter. It waits for nobody.
@@ -140,6 +143,7 @@ impl<T: Chronicle> Turn<T> {
         raise(board, &mut pass.place, length);
         release(board, &mut pass.place, next);
         wake(board, next);
+        pass.length = length;
     }
 
     /// The length of the history that was published last, which the pass has then seen. It waits for nobody, also while another has the turn.
@@ -151,7 +155,8 @@ impl<T: Chronicle> Turn<T> {
         ensures known { known pass.new ≡ record (known pass.old) { seen = (known pass.new).seen } }
         ensures pass { IsPassOf T.Chronicle self.now pass.new }
     {
-        look_front(&self.table.shared, &mut pass.place)
+        pass.length = look_front(&self.table.shared, &mut pass.place);
+        pass.length
     }
 
     /// A second pass, which has seen what this one has, and owns no part. There are fewer than 2^64 passes of a turn, and each split halves how many a pass may become.
@@ -171,6 +176,7 @@ impl<T: Chronicle> Turn<T> {
         pass.shares -= given;
         Ok(Pass {
             place,
+            length: pass.length,
             turns: 0,
             shares: given,
             client: 0,
@@ -186,6 +192,7 @@ impl<T: Chronicle> Turn<T> {
         ensures new { IfOk result (λ p. IsPassOf T.Chronicle self.now p) }
         ensures given { IfOk result (λ p. known p ≡ record (known pass.old) { owned = only client (known pass.old).owned; client = client; turns = 0 }) }
         ensures owner { IfOk result (λ p. OwnsSlot (known p).owned client) }
+        ensures others { (slot : ℕ) → slot ≢ client → OwnsSlot (known pass.old).owned slot → OwnsSlot (known pass.new).owned slot }
         ensures kept { OnOk result (known pass.new ≡ record (known pass.old) { owned = without client (known pass.old).owned }) }
         ensures err { OnErr result (known pass.new ≡ known pass.old) }
         ensures pass { IsPassOf T.Chronicle self.now pass.new }
@@ -200,6 +207,7 @@ impl<T: Chronicle> Turn<T> {
         pass.shares -= given;
         Ok(Pass {
             place,
+            length: pass.length,
             turns: 0,
             shares: given,
             client,
@@ -219,10 +227,15 @@ impl<T: Chronicle> Turn<T> {
         ensures known { known pass.new ≡ record (known pass.old) { seen = (known pass.new).seen; owned = (known pass.old).owned ++ (known other).owned; gone = (known pass.old).gone ++ (known other).gone; stopped = (known pass.old).stopped ++ (known other).stopped } }
         ensures pass { IsPassOf T.Chronicle self.now pass.new }
     {
-        let Pass { place, shares, .. } = other;
+        let Pass {
+            place,
+            length,
+            shares,
+            ..
+        } = other;
         let board = &self.table.shared;
         unite(board, &mut pass.place, place);
-        settle(board, &mut pass.place);
+        pass.length = settle(board, &mut pass.place, pass.length, length);
         pass.shares = pass.shares.saturating_add(shares);
     }
 
@@ -251,12 +264,15 @@ impl<T: Chronicle> Turn<T> {
         see(&self.table.shared, &mut pass.place, client as usize) == 1
     }
 
-    /// Ends the lock, and gives the value if no ticket is out. Else a value that lies in the slot is dropped.
+    /// Ends the lock. Where every ticket that was drawn is served as it ends, it gives the value that lies in the slot, and that is never so while the pass has the turn.
+    /// Else it answers how many tickets were drawn and served, and a value that lies in the slot is dropped. It waits for nobody.
     pub fn close(self, pass: Pass<T>) -> Result<T, TurnOut>
         requires { IsPassOf T.Chronicle self pass }
         ensures base { IfOk result (λ value. T.base value ≡ base_of T.Chronicle self) }
         ensures later { IfOk result (λ value. IsPrefix (seen T.Chronicle pass) (T.history value)) }
-        ensures out { IfErr result (λ e. e.ticket ≢ e.serving) }
+        ensures served { IfOk result (λ value. EndsServed T.Chronicle self pass value) }
+        ensures away { IfOk result (λ _. (known pass).has_turn ≡ false) }
+        ensures out { IfErr result (λ e. EndsOut T.Chronicle self pass e.ticket e.serving) }
     {
         let Turn { table, .. } = self;
         let Pass { place, .. } = pass;

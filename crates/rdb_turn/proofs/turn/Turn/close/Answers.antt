@@ -1,6 +1,6 @@
 use Rattle.std.proofs.Common.{◌≡◌, refl, sym, ◌∙◌, subst, ap, Option}
 use Rattle.std.specs.Option.{IsSome}
-use Rattle.rdb_turn.proofs.Passing.{ends}
+use Rattle.rdb_turn.proofs.Passing.{ends, ends_out, ends_served}
 use Rattle.rdb_turn.proofs.turn.Turn.close.Goals as goal
 use Rattle.rdb_turn.proofs.turn.Turn.close.Goals.{Else-ticket-serving}
 
@@ -20,3 +20,9 @@ returns-clause-later g c =
     let end = ends g.T.Chronicle _ _ _ _ _ _ _ _ _ _ c.close_with-closed.ensures.values.2 c.word-ticket.ensures c.word-serving.ensures c.if-ticket-serving.false c.take-value.ensures.value c.requires.seen_last in
     let same : end.0 ≡ c.unwrap.result = cc (end.1, c.unwrap.ensures) in
     let h = end.3 in (h.0, h.1 ∙ ap g.T.Chronicle.history same)
+
+pub returns-clause-served : goal.returns-clause-served
+returns-clause-served g c = (ends_served g.T.Chronicle c.args.self c.args.pass _ _ _ _ _ _ c.close_with-closed.ensures.values.2 c.word-ticket.ensures c.word-serving.ensures c.if-ticket-serving.false c.take-value.ensures.value c.unwrap.ensures).0
+
+pub returns-clause-away : goal.returns-clause-away
+returns-clause-away g c = (ends_served g.T.Chronicle c.args.self c.args.pass _ _ _ _ _ _ c.close_with-closed.ensures.values.2 c.word-ticket.ensures c.word-serving.ensures c.if-ticket-serving.false c.take-value.ensures.value c.unwrap.ensures).1

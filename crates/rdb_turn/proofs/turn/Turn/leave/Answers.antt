@@ -29,6 +29,7 @@ returns-clause-pass g c =
     let shares : c.release.new.place.me.0.shares ≡ v.shares = ap (λ (m : Mine g.row.T.Denot). m.0.shares) after in record {
       table = c.release.ensures.same.0 ∙ (c.raise.ensures.same.0 ∙ (c.put.ensures.same.0 ∙ k.table));
       latest = c.args.value;
+      counted = c.length-length.ensures;
       seen_last = ap (λ (m : Mine g.row.T.Denot). m.0.seen) after;
       based = c.requires.base;
       boarded = ap (λ (m : Mine g.row.T.Denot). m.0.boarded) after ∙ k.boarded;
