@@ -1,0 +1,7 @@
+pub mod Lengths
+pub mod Pairs
+pub mod Walking
+pub mod Reading
+pub mod Decoding
+pub mod Writing
+pub mod Placing

@@ -1,0 +1,8 @@
+pub mod Types
+pub mod Encoding
+pub mod Proper
+pub mod Encodes
+pub mod Answers
+pub mod Walk
+pub mod Read
+pub mod Places
