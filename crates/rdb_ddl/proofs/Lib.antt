@@ -1,2 +1,3 @@
 pub mod Trivia
 pub mod Reading
+pub mod OneAnswer

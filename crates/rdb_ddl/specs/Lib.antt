@@ -3,4 +3,5 @@ pub mod Token
 pub mod Keyword
 pub mod Grammar
 pub mod Read
+pub mod Cause
 pub mod Canonical

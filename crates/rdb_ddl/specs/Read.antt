@@ -1,5 +1,5 @@
 -- What reading a schema's text gives.
-use Rattle.std.specs.Prelude.{◌≡◌, ◌≤◌, ℕ, All, ◌++◌, List, [], ◌∷◌, length, slice_get, Option, Some, None, Result, Ok, Err}
+use Rattle.std.specs.Prelude.{◌≡◌, ◌≢◌, ◌≤◌, ℕ, All, ◌++◌, List, [], ◌∷◌, length, slice_get, Option, Some, None, Result, Ok, Err}
 use Rattle.rdb_schema.specs.declared.syntax.Part.{Part}
 use Rattle.rdb_ddl.specs.declared.parse.Parsed.{Parsed as Kept}
 use Rattle.rdb_ddl.specs.declared.parse.Refused.{Refused}
@@ -69,3 +69,8 @@ abbrev pub IsFaultIn : List ℕ → DdlFault → DdlCause → Type 0
 IsFaultIn text fault Unexpected = IsUnexpected text fault
 IsFaultIn text fault NoMemory = Unit {0}
 IsFaultIn text fault cause = BreaksRule text fault
+
+-- the text is refused, and this is its first fault
+pub record IsRefused (text : List ℕ) (fault : DdlFault) : Type 0 where
+  pub told : fault.cause ≢ NoMemory
+  pub first : IsFaultIn text fault fault.cause

@@ -2,6 +2,7 @@
 
 ghost use Rattle.std.specs.Prelude.{◌≡◌};
 ghost use Rattle.rdb_schema.specs.declared.syntax.DdlCause.TheVariants.{NoMemory};
+ghost use Rattle.rdb_ddl.specs.Cause.{cause_word};
 
 use rdb_schema::syntax::DdlCause;
 use std::alloc::AllocError;
@@ -25,5 +26,19 @@ impl From<AllocError> for DdlFault {
             column: 1,
             cause: DdlCause::NoMemory,
         }
+    }
+}
+
+/// The word by which a user is told the cause. It takes no memory.
+pub fn cause_word(cause: DdlCause) -> &'static str
+    ensures { result.now ≡ cause_word cause }
+{
+    match cause {
+        DdlCause::Unexpected => "unexpected",
+        DdlCause::Unknown => "unknown",
+        DdlCause::Twice => "twice",
+        DdlCause::BadKey => "badkey",
+        DdlCause::TooMany => "toomany",
+        DdlCause::NoMemory => "memory",
     }
 }

@@ -12,5 +12,5 @@ mod tests;
 pub mod token;
 mod writer;
 
-pub use reader::read;
+pub use reader::{one_answer, read};
 pub use writer::text;

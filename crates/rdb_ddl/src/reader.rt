@@ -1,8 +1,10 @@
 //! From a schema's text to the schema.
 
-ghost use Rattle.std.specs.Prelude.{◌≡◌, ◌≤◌, ℕ, length, slice_get, Some, IfOk, IfErr};
+ghost use Rattle.std.specs.Prelude.{◌≡◌, ◌≤◌, ℕ, List, length, slice_get, Some, IfOk, IfErr};
 ghost use Rattle.rdb_schema.specs.Rules.{IsFaultOf, UnlessMemory};
-ghost use Rattle.rdb_ddl.specs.Read.{IsRead, IsFaultIn, IsPlaced, StandsAt, parsed_of};
+ghost use Rattle.rdb_schema.specs.declared.schema.Schema.{Schema};
+ghost use Rattle.rdb_ddl.specs.declared.fault.DdlFault.{DdlFault};
+ghost use Rattle.rdb_ddl.specs.Read.{IsRead, IsRefused, IsFaultIn, IsPlaced, StandsAt, parsed_of};
 
 use crate::fault::DdlFault;
 use crate::parse::{Parsed, parse};
@@ -57,3 +59,9 @@ fn placed(text: &[u8], parsed: &Parsed, fault: SchemaFault) -> DdlFault
     }
     fault_at(text, *parsed.lefts.at(fault.at), fault.cause)
 }
+
+/// A text is read as one schema only, and a text that is read has no fault.
+pub fn one_answer()
+    ensures one_schema { (text : List ℕ) (one other : Schema) → IsRead text one → IsRead text other → one ≡ other }
+    ensures not_both { (text : List ℕ) (schema : Schema) (fault : DdlFault) → IsRead text schema → IsRefused text fault → ⊥ }
+{}
