@@ -1,24 +1,21 @@
 -- A commit that validation lets pass keeps a journal legal.
-use Rattle.std.proofs.Common.{◌≡◌, ℕ, zero, suc, ◌+◌, ◌-◌, ◌<◌, ◌≤◌, Bool, true, false, ◌&&◌, ◌||◌, ◌==◌, ◌⊎◌, inl, inr, not, cond, List, [], ◌∷◌, ◌++◌, length, take, slice_get, filter_map, Option, Some, None, IsSome, is_some, is_none, MatchOption, All, Contains, nat_eq, nat_le, refl, sym, ap, subst, ◌∙◌, arith, append_assoc, append-nil, if◌then◌else◌}
-use Rattle.std.specs.List.{cons_option, list_any}
+use Rattle.std.proofs.Common.{◌≡◌, ℕ, zero, suc, ◌+◌, ◌≤◌, Bool, true, false, ◌&&◌, ◌||◌, ◌==◌, not, cond, List, [], ◌∷◌, ◌++◌, length, Option, Some, None, IsSome, is_some, All, Contains, nat_eq, refl, sym, ap, subst, arith, append_assoc, append-nil}
+use Rattle.std.specs.List.{cons_option}
 use Rattle.std.specs.Option.{option_map, option_map_or}
 use Rattle.std.proofs.lemmas.Bool.Decides.{nat_tests}
 use Rattle.rdb_base.specs.declared.operation.Op.{Op}
-use Rattle.rdb_base.specs.declared.operation.Op.TheVariants as op
 use Rattle.rdb_base.specs.declared.operation.Reply.{Reply}
-use Rattle.rdb_base.specs.declared.operation.Reply.TheVariants as reply
 use Rattle.rdb_base.specs.declared.journal.Story.{Story}
 use Rattle.rdb_base.specs.declared.journal.Entry.{Entry}
 use Rattle.rdb_base.specs.declared.journal.Entry.TheVariants as entry
 use Rattle.rdb_schema.specs.declared.schema.Schema.{Schema}
-use Rattle.rdb_model.specs.declared.legality.Legality.{Legality}
 use Rattle.rdb_model.specs.declared.legality.Legality.TheVariants as legality
 use Rattle.rdb_model.specs.declared.legality.Why.{Why}
 use Rattle.rdb_model.specs.declared.legality.Why.TheVariants as why
-use Rattle.rdb_model.specs.Database.{Database, empty, row_of, without, with_row, objects_of, with_objects}
+use Rattle.rdb_model.specs.Database.{Database, empty, row_of, objects_of}
 use Rattle.rdb_model.specs.Answer.{answer}
-use Rattle.rdb_model.specs.Story.{same_reply, run, after}
-use Rattle.rdb_model.specs.Journal.{commits, committed, fold, made_by, made_in, made_before, was_made, wrong_reply, is_placed, has_ended, breaks_number, breaks_twice, breaks_place, breaks_reply, broken, judged, IsLegal}
+use Rattle.rdb_model.specs.Story.{same_reply, run}
+use Rattle.rdb_model.specs.Journal.{commits, fold, made_by, made_in, made_before, was_made, wrong_reply, is_placed, has_ended, broken, judged, IsLegal}
 use Rattle.rdb_model.specs.Validation.{was_written, AreLeftAlone, MakesAnew, IsValid}
 use Rattle.rdb_model.proofs.LegalCommits.{commits_run}
 use Rattle.rdb_model.proofs.Validating.{still_runs}

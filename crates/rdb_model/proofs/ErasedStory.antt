@@ -1,23 +1,18 @@
 -- A story on databases without some objects, on which none of its replies rests.
-use Rattle.std.proofs.Common.{◌≡◌, ℕ, Bool, true, false, ◌&&◌, ◌||◌, ◌⊎◌, inl, inr, cond, List, [], ◌∷◌, Option, Some, None, MatchOption, IsSome, is_some, nat_eq, refl, sym, ap, subst, ◌∙◌, arith, set-set}
-use Rattle.std.specs.List.{AllByRecursion, cons_option, filter_map, list_any}
+use Rattle.std.proofs.Common.{◌≡◌, ℕ, Bool, true, false, ◌&&◌, ◌⊎◌, inl, inr, cond, List, [], ◌∷◌, Option, None, IsSome, nat_eq, refl, sym, ap, subst, ◌∙◌, arith}
+use Rattle.std.specs.List.{AllByRecursion}
 use Rattle.std.specs.Option.{option_map_or}
 use Rattle.std.proofs.lemmas.Bool.Decides.{nat_tests}
 use Rattle.rdb_base.specs.declared.operation.Op.{Op}
-use Rattle.rdb_base.specs.declared.operation.Op.TheVariants as op
 use Rattle.rdb_base.specs.declared.operation.Reply.{Reply}
-use Rattle.rdb_base.specs.declared.operation.Reply.TheVariants as reply
 use Rattle.rdb_schema.specs.declared.schema.Schema.{Schema}
-use Rattle.rdb_model.specs.Database.{Row, Objects, Database, row_of, with_row, without, objects_of, with_objects}
-use Rattle.rdb_model.specs.Index.{indexes_of}
-use Rattle.rdb_model.specs.Answer.{clash, answer}
-use Rattle.rdb_model.specs.Story.{same_reply, run, after}
-use Rattle.rdb_model.specs.Touch.{class_of, rests, rests_on, written_by}
-use Rattle.rdb_model.proofs.Rising.{without_with_row_same, without_twice, row_of_without, row_of_without_same}
-use Rattle.rdb_model.proofs.Lacking.{first_fails, second_fails}
-use Rattle.rdb_model.proofs.ClassAnswers.{local_write, local_put, local_del, local, changed, globally, answer_local}
-use Rattle.rdb_model.proofs.ReplyLemmas.{same_reply_is, reply_itself}
-use Rattle.rdb_model.proofs.Erasing.{erased, AllRising, objects_other, objects_erased, rising_erased, rising_answer, erased_with_same, erased_comm, makes, IsSteady, steady}
+use Rattle.rdb_model.specs.Database.{Row, Database, row_of, without, objects_of}
+use Rattle.rdb_model.specs.Answer.{answer}
+use Rattle.rdb_model.specs.Story.{same_reply, run}
+use Rattle.rdb_model.specs.Touch.{class_of, rests}
+use Rattle.rdb_model.proofs.Rising.{row_of_without, row_of_without_same}
+use Rattle.rdb_model.proofs.ReplyLemmas.{same_reply_is}
+use Rattle.rdb_model.proofs.Erasing.{erased, AllRising, objects_other, objects_erased, rising_erased, rising_answer, erased_comm, makes, IsSteady, steady}
 
 -- the row that a database has of an object
 abbrev pub row_in : Database → ℕ × ℕ → Option Row

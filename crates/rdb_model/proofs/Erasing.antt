@@ -1,6 +1,5 @@
 -- A database without one object, and what an operation does to it.
-use Rattle.std.proofs.Common.{◌≡◌, ℕ, ◌<◌, ◌≤◌, ◌≢◌, Bool, true, false, ◌&&◌, ◌⊎◌, inl, inr, List, [], ◌∷◌, length, Option, Some, None, MatchOption, nat_eq, is_none, refl, sym, ap, subst, ◌∙◌, arith, set-set, get_or-set_same, get_or-set_other}
-use Rattle.std.specs.List.{AllByRecursion}
+use Rattle.std.proofs.Common.{◌≡◌, ℕ, ◌<◌, ◌≤◌, ◌≢◌, Bool, true, false, ◌&&◌, ◌⊎◌, inl, inr, [], length, Option, Some, None, MatchOption, nat_eq, refl, sym, ap, subst, ◌∙◌, arith, set-set, get_or-set_same, get_or-set_other}
 use Rattle.std.specs.Option.{option_map, option_map_or}
 use Rattle.std.proofs.lemmas.Bool.{cases_lt}
 use Rattle.std.proofs.lemmas.Bool.Decides.{nat_tests}

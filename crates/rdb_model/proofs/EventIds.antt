@@ -1,5 +1,5 @@
 -- The ids of events are those to which they happened.
-use Rattle.std.proofs.Common.{◌≡◌, ℕ, zero, suc, ◌<◌, Bool, true, false, ◌||◌, ◌⊎◌, inl, inr, cond, List, [], ◌∷◌, length, map, get_or, filter, Option, Some, None, Contains, is_some, nat_eq, nat_lt, refl, sym, ap, subst, ◌∙◌, arith}
+use Rattle.std.proofs.Common.{◌≡◌, ℕ, zero, suc, Bool, true, false, ◌||◌, cond, List, [], ◌∷◌, map, filter, Option, Some, None, Contains, is_some, nat_eq, nat_lt, refl, sym, ap, subst, ◌∙◌, arith}
 use Rattle.std.proofs.lemmas.Bool.Decides.{nat_tests}
 use Rattle.rdb_schema.specs.declared.schema.EventKind.{EventKind}
 use Rattle.rdb_schema.specs.declared.schema.EventKind.TheVariants as kind

@@ -1,5 +1,5 @@
 -- What a commit did not write stays as it was, so no event happens to it.
-use Rattle.std.proofs.Common.{◌≡◌, ℕ, zero, suc, ◌+◌, ◌-◌, ◌<◌, ◌≤◌, Bool, true, false, ◌&&◌, ◌||◌, ◌==◌, not, List, [], ◌∷◌, ◌++◌, length, take, drop, slice_get, get_or, filter_map, Option, Some, None, Contains, nat_eq, refl, sym, ap, subst, ◌∙◌, arith, take-append-drop, take_all}
+use Rattle.std.proofs.Common.{◌≡◌, ℕ, suc, ◌+◌, ◌-◌, Bool, true, false, ◌&&◌, ◌==◌, not, List, [], ◌∷◌, length, take, drop, slice_get, filter_map, Option, Some, None, Contains, nat_eq, refl, sym, ap, subst, ◌∙◌, arith, take-append-drop}
 use Rattle.std.specs.List.{list_any}
 use Rattle.std.specs.Ordering.{is_eq}
 use Rattle.std.proofs.lemmas.Bool.Decides.{nat_tests}
@@ -18,7 +18,7 @@ use Rattle.rdb_schema.specs.declared.schema.Schema.{Schema}
 use Rattle.rdb_model.specs.Database.{Row, Database, empty, row_of, without, objects_of}
 use Rattle.rdb_model.specs.Index.{key}
 use Rattle.rdb_model.specs.Story.{run, after}
-use Rattle.rdb_model.specs.Journal.{commits, committed, after_all, fold, made_before, IsLegal}
+use Rattle.rdb_model.specs.Journal.{commits, committed, fold, made_before, IsLegal}
 use Rattle.rdb_model.specs.Touch.{written_by}
 use Rattle.rdb_model.specs.Validation.{was_written}
 use Rattle.rdb_model.specs.Events.{happened}

@@ -1,14 +1,11 @@
 -- What a list answers with one object more, on which the answer doesn't rest.
-use Rattle.std.proofs.Common.{◌≡◌, ℕ, ◌+◌, ◌<◌, Bool, true, false, ◌&&◌, ◌||◌, ◌⊎◌, inl, inr, cond, not, List, [], ◌∷◌, ◌++◌, length, max, Option, Some, None, nat_eq, nat_lt, is_none, refl, sym, ap, subst, ◌∙◌, arith, if◌then◌else◌, map, filter, find}
-use Rattle.std.specs.List.{list_any}
+use Rattle.std.proofs.Common.{◌≡◌, ℕ, ◌+◌, Bool, true, false, ◌&&◌, ◌||◌, ◌⊎◌, inl, inr, cond, not, List, [], ◌∷◌, ◌++◌, length, max, Option, Some, None, nat_eq, nat_lt, refl, ap, ◌∙◌, arith, if◌then◌else◌, filter, find}
 use Rattle.std.specs.Option.{option_map, option_map_or, option_or}
-use Rattle.std.specs.Ordering.{ordering_then, ordering_reverse, nat_cmp, is_lt, is_gt, is_eq}
+use Rattle.std.specs.Ordering.{ordering_then, nat_cmp, is_lt, is_gt}
 use Rattle.std.specs.declared.cmp.Ordering.{Ordering}
 use Rattle.std.specs.declared.cmp.Ordering.TheVariants.{Less, Equal, Greater}
-use Rattle.std.proofs.lemmas.Bool.Decides.{nat_tests}
 use Rattle.std.proofs.lemmas.Cmp.{tied_itself}
 use Rattle.rdb_base.specs.declared.operation.Place.{Place}
-use Rattle.rdb_base.specs.declared.operation.How.{How}
 use Rattle.rdb_base.specs.declared.operation.How.TheVariants as how
 use Rattle.rdb_base.specs.declared.operation.Reply.{Reply}
 use Rattle.rdb_base.specs.declared.operation.Reply.TheVariants as reply
@@ -16,7 +13,7 @@ use Rattle.rdb_base.specs.Order.{row_order}
 use Rattle.rdb_schema.specs.declared.schema.IndexDecl.{IndexDecl}
 use Rattle.rdb_model.specs.Database.{Row, Objects, row_of}
 use Rattle.rdb_model.specs.Index.{key, has_key, pair_order, with_pair, pair_of, index}
-use Rattle.rdb_model.specs.Answer.{holder, clash, is_beyond, sought, prefix_length, words_of, longest_prefix, starts}
+use Rattle.rdb_model.specs.Answer.{holder, clash, is_beyond, sought, prefix_length, words_of, longest_prefix}
 use Rattle.rdb_model.specs.Seek.{takes}
 use Rattle.rdb_model.specs.Touch.{shares_key, is_within, relates}
 use Rattle.rdb_model.proofs.SeekLemmas.{pair_order_total, better, sought_more}

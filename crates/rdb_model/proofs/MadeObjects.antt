@@ -1,7 +1,6 @@
 -- The objects of a legal journal were made by its commits, and so were those that these write.
-use Rattle.std.proofs.Common.{◌≡◌, ℕ, zero, suc, ◌+◌, ◌<◌, ◌≤◌, Bool, true, false, ◌&&◌, ◌||◌, ◌==◌, ◌⊎◌, inl, inr, cond, List, [], ◌∷◌, ◌++◌, length, get_or, filter_map, Option, Some, None, MatchOption, All, Contains, is_some, is_none, nat_eq, refl, sym, ap, subst, ◌∙◌, arith, append_assoc, append-nil}
+use Rattle.std.proofs.Common.{◌≡◌, ℕ, zero, suc, Bool, true, false, ◌&&◌, ◌||◌, ◌==◌, ◌⊎◌, inl, inr, cond, List, [], ◌∷◌, ◌++◌, filter_map, Option, Some, None, MatchOption, Contains, is_some, nat_eq, refl, sym, ap, subst, ◌∙◌, arith, append_assoc, append-nil}
 use Rattle.std.specs.List.{cons_option, list_any}
-use Rattle.std.specs.Option.{option_map_or}
 use Rattle.std.proofs.lemmas.Bool.Decides.{nat_tests}
 use Rattle.rdb_base.specs.declared.operation.Op.{Op}
 use Rattle.rdb_base.specs.declared.operation.Op.TheVariants as op
@@ -13,7 +12,7 @@ use Rattle.rdb_base.specs.declared.journal.Entry.TheVariants as entry
 use Rattle.rdb_schema.specs.declared.schema.Schema.{Schema}
 use Rattle.rdb_model.specs.Database.{Row, Database, row_of, with_row, without, objects_of, with_objects}
 use Rattle.rdb_model.specs.Index.{indexes_of}
-use Rattle.rdb_model.specs.Answer.{clash, written, answer}
+use Rattle.rdb_model.specs.Answer.{clash, answer}
 use Rattle.rdb_model.specs.Story.{same_reply, run, after}
 use Rattle.rdb_model.specs.Journal.{made_by, made_in, made_before, was_made}
 use Rattle.rdb_model.specs.Touch.{written_by}

@@ -1,5 +1,5 @@
 -- What had ended when a transaction of a legal journal began comes before it in serial order.
-use Rattle.std.proofs.Common.{◌≡◌, ℕ, zero, suc, ◌+◌, ◌<◌, ◌≤◌, Bool, true, false, ◌&&◌, ◌⊎◌, inl, inr, not, List, [], ◌∷◌, ◌++◌, length, take, slice_get, filter_map, Option, Some, None, nat_eq, nat_le, refl, sym, ap, subst, ◌∙◌, arith, append_assoc, append-nil, take-take, take_all, length-take, min}
+use Rattle.std.proofs.Common.{◌≡◌, ℕ, zero, suc, ◌+◌, ◌<◌, ◌≤◌, Bool, true, false, ◌&&◌, ◌⊎◌, inl, inr, not, List, [], ◌∷◌, ◌++◌, length, take, slice_get, filter_map, Some, nat_eq, nat_le, refl, sym, ap, subst, ◌∙◌, arith, append_assoc, append-nil, take-take, take_all, length-take}
 use Rattle.std.proofs.lemmas.Bool.{cases_lt}
 use Rattle.std.proofs.lemmas.Bool.Decides.{nat_tests}
 use Rattle.rdb_base.specs.declared.journal.Story.{Story}
@@ -7,8 +7,8 @@ use Rattle.rdb_base.specs.declared.journal.Entry.{Entry}
 use Rattle.rdb_base.specs.declared.journal.Entry.TheVariants as entry
 use Rattle.rdb_schema.specs.declared.schema.Schema.{Schema}
 use Rattle.rdb_model.specs.declared.legality.Legality.TheVariants as legality
-use Rattle.rdb_model.specs.Journal.{commits, is_placed, breaks_place, judged, IsLegal}
-use Rattle.rdb_model.specs.Serial.{read_at, committed_stories, interleaved, serial_order}
+use Rattle.rdb_model.specs.Journal.{commits, is_placed, judged, IsLegal}
+use Rattle.rdb_model.specs.Serial.{read_at, committed_stories, serial_order}
 use Rattle.rdb_model.specs.SerialRun.{ordered_story, ComesBefore}
 use Rattle.rdb_model.proofs.LegalCommits.{IsWhole, judged_first}
 use Rattle.rdb_model.proofs.SerialPlaces.{IsIn, StandsBefore, get_filtered, filtered_grows, filtered_more, commit_story, stories_filtered, commits_filtered, block, read_read, same_block, read_commit, commit_read, commit_commit}

@@ -1,17 +1,11 @@
 -- Where the stories of a journal stand in serial order.
-use Rattle.std.proofs.Common.{◌≡◌, ℕ, zero, suc, ◌+◌, ◌<◌, ◌≤◌, Bool, true, false, ◌&&◌, ◌⊎◌, inl, inr, not, List, [], ◌∷◌, ◌++◌, length, take, slice_get, filter, filter_map, Option, Some, None, nat_eq, nat_le, refl, sym, ap, subst, ◌∙◌, arith, append_assoc, append-nil, length-append, take-take}
+use Rattle.std.proofs.Common.{◌≡◌, ℕ, zero, suc, ◌+◌, ◌<◌, ◌≤◌, List, [], ◌∷◌, ◌++◌, length, take, slice_get, filter_map, Option, Some, None, refl, sym, ap, subst, ◌∙◌, arith}
 use Rattle.std.specs.List.{cons_option}
-use Rattle.std.proofs.lemmas.Bool.{cases_lt}
-use Rattle.std.proofs.lemmas.Bool.Decides.{nat_tests}
 use Rattle.rdb_base.specs.declared.journal.Story.{Story}
 use Rattle.rdb_base.specs.declared.journal.Entry.{Entry}
 use Rattle.rdb_base.specs.declared.journal.Entry.TheVariants as entry
-use Rattle.rdb_schema.specs.declared.schema.Schema.{Schema}
-use Rattle.rdb_model.specs.declared.legality.Legality.TheVariants as legality
-use Rattle.rdb_model.specs.Journal.{is_commit, commits, is_placed, judged, IsLegal}
-use Rattle.rdb_model.specs.Serial.{read_at, committed_stories, interleaved, serial_order}
-use Rattle.rdb_model.specs.SerialRun.{ordered_story, ComesBefore}
-use Rattle.rdb_model.proofs.LegalCommits.{IsWhole, judged_first}
+use Rattle.rdb_model.specs.Journal.{commits}
+use Rattle.rdb_model.specs.Serial.{read_at, committed_stories, interleaved}
 
 -- an element that is there, and one that stands before another
 abbrev pub IsIn : {X : Type 0} → List X → X → Type 0

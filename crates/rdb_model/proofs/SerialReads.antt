@@ -1,6 +1,6 @@
 -- The stories of a legal journal in serial order, run one after another.
-use Rattle.std.proofs.Common.{◌≡◌, ℕ, zero, suc, ◌+◌, ◌<◌, ◌≤◌, Bool, true, false, ◌&&◌, not, cond, List, [], ◌∷◌, ◌++◌, length, map, take, filter_map, flat_map, Option, Some, None, All, Contains, nat_eq, nat_le, refl, sym, ap, subst, ◌∙◌, arith, append_assoc, length-append}
-use Rattle.std.specs.List.{AllByRecursion, cons_option}
+use Rattle.std.proofs.Common.{◌≡◌, ℕ, suc, ◌+◌, ◌≤◌, Bool, true, false, ◌&&◌, not, cond, List, [], ◌∷◌, ◌++◌, length, map, take, filter_map, Some, None, Contains, nat_eq, nat_le, refl, sym, ap, subst, ◌∙◌, arith, append_assoc}
+use Rattle.std.specs.List.{cons_option}
 use Rattle.std.proofs.lemmas.Bool.Decides.{nat_tests}
 use Rattle.std.proofs.lemmas.List.{take-append-le}
 use Rattle.std.proofs.lemmas.List.Elements.{filter_map-append}
@@ -21,7 +21,6 @@ use Rattle.rdb_model.specs.Fits.{fits, AllFit}
 use Rattle.rdb_model.specs.Serial.{read_at, committed_stories, interleaved, serial_order}
 use Rattle.rdb_model.specs.SerialRun.{operations_of, ReadsFit}
 use Rattle.rdb_model.proofs.LegalCommits.{CommitsRun, IsWhole, commits_are, commits_run, right_runs, judged_first, fold_all}
-use Rattle.rdb_model.proofs.FitsLemmas.{first_of, second_of}
 
 -- two runs, one after the other
 pub run_append : (schema : Schema) (xs ys : List (Op × Reply)) (db next : Database) → run schema db xs ≡ Some next → run schema db (xs ++ ys) ≡ run schema next ys

@@ -1,5 +1,5 @@
 -- What an operation is told without an object on which its reply doesn't rest.
-use Rattle.std.proofs.Common.{◌≡◌, ℕ, Bool, true, false, ◌&&◌, ◌||◌, ◌⊎◌, inl, inr, cond, not, List, [], ◌∷◌, ◌++◌, length, take, Option, Some, None, nat_eq, is_none, refl, sym, ap, subst, ◌∙◌, arith, if◌then◌else◌, map, filter, take_all}
+use Rattle.std.proofs.Common.{◌≡◌, ℕ, Bool, true, false, ◌&&◌, ◌||◌, ◌⊎◌, inl, inr, List, ◌∷◌, ◌++◌, length, take, Option, Some, None, nat_eq, refl, sym, ap, subst, ◌∙◌, arith, map, take_all}
 use Rattle.std.specs.Option.{option_map, option_map_or}
 use Rattle.std.specs.Cmp.Lexicographic.{bytes_decides, pointwise}
 use Rattle.std.proofs.lemmas.Bool.Decides.{nat_tests}
@@ -13,11 +13,11 @@ use Rattle.rdb_base.specs.declared.operation.Reply.{Reply}
 use Rattle.rdb_base.specs.declared.operation.Reply.TheVariants as reply
 use Rattle.rdb_schema.specs.declared.schema.Schema.{Schema}
 use Rattle.rdb_schema.specs.declared.schema.IndexDecl.{IndexDecl}
-use Rattle.rdb_model.specs.Database.{Row, Objects, Database, row_of, with_row, without, objects_of, with_objects}
-use Rattle.rdb_model.specs.Index.{indexes_of, fields_of, key, has_key, index, pair_of}
-use Rattle.rdb_model.specs.Answer.{ids_where, clash, sought, is_beyond, meets, words_of, starts, longest_prefix, is_found, written, answer}
+use Rattle.rdb_model.specs.Database.{Row, Objects, row_of, with_row, without}
+use Rattle.rdb_model.specs.Index.{indexes_of, fields_of, key, has_key, index}
+use Rattle.rdb_model.specs.Answer.{ids_where, clash, sought, meets, words_of, starts, longest_prefix, is_found}
 use Rattle.rdb_model.specs.Journal.{made_by}
-use Rattle.rdb_model.specs.Touch.{shares_key, is_within, relates, class_of, rests}
+use Rattle.rdb_model.specs.Touch.{shares_key, relates, rests}
 use Rattle.rdb_model.proofs.Rising.{IsRising, IsSplit, split, without_missing, without_without, without_with_row, row_of_with_row, row_of_without, row_of_without_same, rising_without}
 use Rattle.rdb_model.proofs.Lacking.{first_fails, second_fails, filter_lacks, row_of_lacks, clash_lacks, longest_lacks, sought_lacks, told_at}
 use Rattle.rdb_model.proofs.ClassAnswers.{local_write, local_put, local_del, local}

@@ -1,5 +1,5 @@
 -- The law of validation, commit by commit.
-use Rattle.std.proofs.Common.{◌≡◌, ℕ, zero, suc, ◌+◌, ◌-◌, ◌<◌, ◌≤◌, Bool, true, false, ◌&&◌, ◌||◌, ◌⊎◌, inl, inr, List, [], ◌∷◌, length, take, replicate, slice_get, get_or, filter_map, Option, Some, None, IsSome, All, Contains, nat_eq, refl, sym, ap, subst, ◌∙◌, arith}
+use Rattle.std.proofs.Common.{◌≡◌, ℕ, zero, suc, ◌+◌, ◌-◌, ◌<◌, ◌≤◌, Bool, false, ◌&&◌, ◌||◌, ◌⊎◌, inl, inr, List, [], ◌∷◌, length, take, slice_get, filter_map, Option, Some, None, IsSome, All, Contains, nat_eq, refl, sym, ap, subst, ◌∙◌, arith}
 use Rattle.std.specs.List.{AllByRecursion, cons_option, list_any}
 use Rattle.std.proofs.lemmas.Bool.{cases_lt}
 use Rattle.std.specs.Option.{option_map_or}
@@ -13,12 +13,12 @@ use Rattle.rdb_model.specs.Database.{Database, empty, objects_of}
 use Rattle.rdb_model.specs.Answer.{answer}
 use Rattle.rdb_model.specs.Story.{run, after}
 use Rattle.rdb_model.specs.Journal.{committed, after_all, fold, made_by, made_in, IsLegal}
-use Rattle.rdb_model.specs.Touch.{rests_on, any_rests, touches, written_by}
+use Rattle.rdb_model.specs.Touch.{rests_on, touches, written_by}
 use Rattle.rdb_model.specs.Validation.{was_written, LeavesAlone, AreLeftAlone, RunsAfter}
 use Rattle.rdb_model.proofs.Rising.{IsRising}
 use Rattle.rdb_model.proofs.Lacking.{first_fails, second_fails}
 use Rattle.rdb_model.proofs.Erasing.{AllRising, rising_answer, makes}
-use Rattle.rdb_model.proofs.ErasedStory.{row_in, rests_at, IsPassedOver, ArePassedOver, erased_all, run_erased_all, run_with_all}
+use Rattle.rdb_model.proofs.ErasedStory.{row_in, rests_at, IsPassedOver, ArePassedOver, run_erased_all, run_with_all}
 use Rattle.rdb_model.proofs.WrittenObjects.{wrote_these}
 use Rattle.rdb_model.proofs.LegalCommits.{commits_run, IsCommitAt, commit_at}
 

@@ -9,12 +9,12 @@ use Rattle.rdb_schema.specs.declared.schema.Schema.{Schema}
 use Rattle.rdb_model.specs.Database.{Row, Objects, Database, row_of, with_row, without, objects_of, with_objects}
 use Rattle.rdb_model.specs.Index.{indexes_of}
 use Rattle.rdb_model.specs.Answer.{clash, answer}
-use Rattle.rdb_model.specs.Story.{same_reply, run, after}
+use Rattle.rdb_model.specs.Story.{same_reply, run}
 use Rattle.rdb_model.specs.Touch.{class_of, written_by}
 use Rattle.rdb_model.proofs.Rising.{without_with_row_same, without_twice}
-use Rattle.rdb_model.proofs.ClassAnswers.{local_write, local_put, local_del, local, changed, globally, answer_local}
+use Rattle.rdb_model.proofs.ClassAnswers.{local_write, local_put, local_del, local, changed, answer_local}
 use Rattle.rdb_model.proofs.ReplyLemmas.{same_reply_is}
-use Rattle.rdb_model.proofs.Erasing.{erased, erased_with_same, erased_comm}
+use Rattle.rdb_model.proofs.Erasing.{erased, erased_with_same}
 use Rattle.rdb_model.proofs.ErasedStory.{erased_all, erased_all_comm}
 
 -- a change leaves the other objects of its class, and nothing is changed where nothing was written

@@ -1,6 +1,5 @@
 -- Case by case.
-use Rattle.std.proofs.Common.{◌≡◌, true, ap, ◌∙◌, sym}
-use Rattle.rdb_base.specs.declared.operation.Reply.{Reply}
+use Rattle.std.proofs.Common.{ap, ◌∙◌, sym}
 use Rattle.rdb_model.specs.Story.{same_reply}
 use Rattle.rdb_model.proofs.ReplyLemmas.{same_reply_is, reply_itself}
 use Rattle.rdb_model.proofs.laws.same_replies_are_equal.Goals as goal
