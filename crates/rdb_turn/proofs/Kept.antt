@@ -84,13 +84,13 @@ abbrev pub clear : List ℕ
 clear = 0 ∷ 0 ∷ 0 ∷ 0 ∷ 0 ∷ 0 ∷ 0 ∷ 0 ∷ 0 ∷ 0 ∷ 0 ∷ 0 ∷ 0 ∷ 0 ∷ 0 ∷ 0 ∷ []
 
 -- what stands in a list of one
-alone : (x y : ℕ) → Contains (x ∷ []) y → x ≡ y
+pub alone : (x y : ℕ) → Contains (x ∷ []) y → x ≡ y
 alone x y (k, low, at) = let first : k ≡ 0 = omega arith in subst (λ (i : ℕ). get_or (x ∷ []) i y ≡ y) first at
 
 first_of_all : (x : ℕ) → Contains (x ∷ []) x
 first_of_all x = (0, omega arith, refl)
 
-none_there : (x : ℕ) → Contains [] x → ⊥
+pub none_there : (x : ℕ) → Contains [] x → ⊥
 none_there x (k, low, at) = omega arith
 
 zeros : (n i : ℕ) → ◌≡◌ {A = ℕ} (get_or (replicate {A = ℕ} n 0) i 0) 0

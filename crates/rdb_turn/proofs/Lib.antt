@@ -3,3 +3,4 @@ pub mod Parts
 pub mod Sums
 pub mod Kept
 pub mod Passing
+pub mod Counting

@@ -91,3 +91,13 @@ module _ {T : Type 0} where
   owns_left [] value slot h = absurd h.1
   owns_left (p ∷ ps) value slot (x, inl e) = inl (e.0, refl)
   owns_left (p ∷ ps) value slot (x, inr h) = inr (owns_left ps value slot (x, h))
+
+  -- of two passes that meet, each brings what it owns
+  pub owns_first : (ps qs : List (ℕ × T)) (slot : ℕ) → OwnsSlot ps slot → OwnsSlot (ps ++ qs) slot
+  owns_first [] qs slot h = absurd h.1
+  owns_first (p ∷ ps) qs slot (x, inl e) = (x, inl e)
+  owns_first (p ∷ ps) qs slot (x, inr h) = let r = owns_first ps qs slot (x, h) in (r.0, inr r.1)
+
+  pub owns_second : (ps qs : List (ℕ × T)) (slot : ℕ) → OwnsSlot qs slot → OwnsSlot (ps ++ qs) slot
+  owns_second [] qs slot h = h
+  owns_second (p ∷ ps) qs slot h = let r = owns_second ps qs slot h in (r.0, inr r.1)

@@ -9,6 +9,8 @@ mod rule;
 mod steps;
 #[cfg(test)]
 mod tests;
+#[cfg(test)]
+mod tests_of_parts;
 mod turn;
 mod view;
 mod waiting;

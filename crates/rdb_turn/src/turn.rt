@@ -224,6 +224,8 @@ impl<T: Chronicle> Turn<T> {
         ensures one { ((known pass.new).seen ≡ (known pass.old).seen) ⊎ ((known pass.new).seen ≡ (known other).seen) }
         ensures own { IsPrefix (seen T.Chronicle pass.old) (seen T.Chronicle pass.new) }
         ensures others { IsPrefix (seen T.Chronicle other) (seen T.Chronicle pass.new) }
+        ensures keeps { (slot : ℕ) → OwnsSlot (known pass.old).owned slot → OwnsSlot (known pass.new).owned slot }
+        ensures takes_over { (slot : ℕ) → OwnsSlot (known other).owned slot → OwnsSlot (known pass.new).owned slot }
         ensures known { known pass.new ≡ record (known pass.old) { seen = (known pass.new).seen; owned = (known pass.old).owned ++ (known other).owned; gone = (known pass.old).gone ++ (known other).gone; stopped = (known pass.old).stopped ++ (known other).stopped } }
         ensures pass { IsPassOf T.Chronicle self.now pass.new }
     {

@@ -1,7 +1,8 @@
-use Rattle.std.proofs.Common.{◌≡◌, ◌+◌, ◌++◌, ◌∷◌, [], sym, ◌∙◌, ap, inl, inr, ⊎_elim, arith}
-use Rattle.rdb_turn.specs.Rule.{is_inside}
+use Rattle.std.proofs.Common.{◌≡◌, ◌+◌, ◌++◌, ◌∷◌, [], ℕ, List, subst, sym, ◌∙◌, ap, inl, inr, ⊎_elim, arith}
+use Rattle.rdb_turn.specs.Rule.{is_inside, OwnsSlot}
 use Rattle.rdb_turn.specs.Steps.{Mine}
 use Rattle.rdb_turn.specs.Passes.{history_of, Known}
+use Rattle.rdb_turn.proofs.Parts.{owns_first, owns_second}
 use Rattle.rdb_turn.proofs.Passing.{met, fits_as}
 use Rattle.rdb_turn.proofs.turn.Turn.meet.Goals as goal
 
@@ -55,3 +56,17 @@ returns-clause-pass g c =
       fits = fits_as c.args.pass.now.ticket c.args.pass.now.place.me c.settle-pass.new.place.me (sym (ap (λ (m : Mine g.row.T.Denot). m.1) told.2)) (sym (ap (λ (m : Mine g.row.T.Denot). m.0.stand) told.2)) k.fits;
       inside = λ is. absurd (cc (is, ap (λ (m : Mine g.row.T.Denot). is_inside m.0.stand) told.2, c.requires.away));
     }
+
+pub returns-clause-keeps : goal.returns-clause-keeps
+returns-clause-keeps g c =
+    let k = c.requires.pass in let l = c.requires.other in
+    let told = met g.T.Chronicle c.args.pass.now.place.me.0 c.args.other.place.me.0 k.latest l.latest c.args.pass.now.place.me.1 _ c.settle-pass.new.place.me c.settle-pass.result k.seen_last l.seen_last c.unite.ensures.both c.settle-pass.ensures.settled in
+    let owned = ap (λ (m : Mine g.row.T.Denot). m.0.owned) told.2 in
+    λ slot h. subst (λ (ps : List (ℕ × g.row.T.Denot)). OwnsSlot ps slot) (sym owned) (owns_first c.args.pass.now.place.me.0.owned c.args.other.place.me.0.owned slot h)
+
+pub returns-clause-takes_over : goal.returns-clause-takes_over
+returns-clause-takes_over g c =
+    let k = c.requires.pass in let l = c.requires.other in
+    let told = met g.T.Chronicle c.args.pass.now.place.me.0 c.args.other.place.me.0 k.latest l.latest c.args.pass.now.place.me.1 _ c.settle-pass.new.place.me c.settle-pass.result k.seen_last l.seen_last c.unite.ensures.both c.settle-pass.ensures.settled in
+    let owned = ap (λ (m : Mine g.row.T.Denot). m.0.owned) told.2 in
+    λ slot h. subst (λ (ps : List (ℕ × g.row.T.Denot)). OwnsSlot ps slot) (sym owned) (owns_second c.args.pass.now.place.me.0.owned c.args.other.place.me.0.owned slot h)
