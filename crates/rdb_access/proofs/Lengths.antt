@@ -1,5 +1,5 @@
 -- The encoding of a row is as long as `row_length` says, and a row of a class is one of the class's types.
-use Rattle.std.proofs.Common.{◌≡◌, ℕ, true, false, ◌&&◌, List, [], ◌∷◌, length, map, flat_map, Option, Some, None, slice_get, refl, sym, ap, ◌∙◌, arith, length-append}
+use Rattle.std.proofs.Common.{◌≡◌, ℕ, zero, suc, ℤ, true, false, ◌&&◌, List, [], ◌∷◌, length, map, flat_map, Option, Some, None, slice_get, refl, sym, ap, ◌∙◌, arith, length-append}
 use Rattle.std.specs.Prelude.{nat_le}
 use Rattle.std.specs.List.{list_all}
 use Rattle.std.specs.Option.{option_map_or}
@@ -19,9 +19,10 @@ use Rattle.rdb_schema.specs.declared.schema.Group.{Group}
 use Rattle.rdb_schema.specs.declared.schema.Class.{Class}
 use Rattle.rdb_schema.specs.declared.schema.Schema.{Schema}
 use Rattle.rdb_schema.specs.Values.{leaf_holds, leaves_hold, element_holds, holds, values_hold, row_holds, leaf_length, leaves_length, element_length, elements_length, value_length, values_length, row_length}
-use Rattle.rdb_access.specs.Types.{leaf_types, element_type, value_type, types_of, all_pairs, element_fits, value_fits, row_fits}
+use Rattle.rdb_access.specs.Types.{leaf_types, element_type, value_type, types_of, all_pairs, element_fits, value_fits, row_fits, number_fits}
 use Rattle.rdb_access.specs.Encoding.{pattern, number_bytes, leaf_bytes, leaves_bytes, element_bytes, value_bytes, row_bytes, encoding}
 use Rattle.rdb_access.specs.declared.types.ElementType.TheVariants as elements
+use Rattle.rdb_access.specs.declared.types.ValueType.{ValueType}
 use Rattle.rdb_access.specs.declared.types.ValueType.TheVariants as values
 
 -- a number takes its bytes
@@ -197,3 +198,23 @@ row_fits_of schema class row e = go (slice_get schema.classes class) e
     go : (o : Option Class) → option_map_or (λ c. values_hold schema c.fields row) o false ≡ true → row_fits (option_map_or (λ c. map (λ f. value_type schema f.ty) c.fields) o []) row ≡ true
     go None e = absurd cc
     go (Some c) e = fits-values schema c.fields row ∙ e
+
+-- a number that is one of a field's type may be written over the field's
+pub number_fits_of : (schema : Schema) (class field : ℕ) (c : Class) (f : Field) (n : ℤ) → slice_get schema.classes class ≡ Some c → slice_get c.fields field ≡ Some f
+    → holds schema f.ty (value.Leaf (leaf.Num n)) ≡ true → number_fits (slice_get (types_of schema class) field) n ≡ true
+number_fits_of schema class field c f n e d h =
+    ap (λ o. number_fits (slice_get (option_map_or (λ c. map (λ f. value_type schema f.ty) c.fields) o []) field) n) e
+    ∙ ap (λ o. number_fits o n) (get_mapped c.fields field f d) ∙ fits f.ty (fits-value schema f.ty (value.Leaf (leaf.Num n)) ∙ h)
+  where
+    get_mapped : (fs : List Field) (k : ℕ) (f : Field) → slice_get fs k ≡ Some f → slice_get (map (λ f. value_type schema f.ty) fs) k ≡ Some (value_type schema f.ty)
+    get_mapped [] k f e = absurd cc
+    get_mapped (x ∷ fs) zero f e = let same : x ≡ f = cc in ap (λ y. Some (value_type schema y.ty)) same
+    get_mapped (x ∷ fs) (suc k) f e = get_mapped fs k f e
+
+    fits : (t : FieldType) → value_fits (value_type schema t) (value.Leaf (leaf.Num n)) ≡ true → number_fits (Some (value_type schema t)) n ≡ true
+    fits t e = by_type (value_type schema t) e
+      where
+        by_type : (t : ValueType) → value_fits t (value.Leaf (leaf.Num n)) ≡ true → number_fits (Some t) n ≡ true
+        by_type (values.Leaf t) e = e
+        by_type (values.Vector of) e = e
+        by_type (values.Group ts) e = e

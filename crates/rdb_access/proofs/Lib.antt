@@ -5,3 +5,4 @@ pub mod Reading
 pub mod Decoding
 pub mod Writing
 pub mod Placing
+pub mod Proper

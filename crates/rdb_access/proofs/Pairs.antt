@@ -1,6 +1,7 @@
 -- Two lists side by side, from a place on.
-use Rattle.std.proofs.Common.{◌≡◌, ℕ, zero, suc, ◌+◌, Bool, true, false, ◌&&◌, List, [], ◌∷◌, ◌++◌, drop, Some, slice_get, Result, Ok, Err, refl, sym, ap, ◌∙◌, append_assoc, add-one, ℤ}
+use Rattle.std.proofs.Common.{◌≡◌, ℕ, zero, suc, ◌+◌, Bool, true, false, ◌&&◌, List, [], ◌∷◌, ◌++◌, drop, flat_map, Some, slice_get, Result, Ok, Err, refl, sym, ap, ◌∙◌, append_assoc, add-one, ℤ}
 use Rattle.std.specs.Prelude.{OnOk}
+use Rattle.std.specs.List.{list_all}
 use Rattle.rdb_base.specs.declared.value.Rect.{Rect}
 use Rattle.rdb_access.specs.Types.{all_pairs}
 use Rattle.rdb_access.specs.Encoding.{number_bytes, rect_bytes, pairs_bytes}
@@ -56,3 +57,17 @@ rect_written (Ok x) o o1 o2 o3 o4 box x1 y1 x2 y2 f1 f2 f3 f4 e1 e2 e3 e4 =
     four_parts o o1 o2 o3 o4 (number_bytes 4 box.x1) (number_bytes 4 box.y1) (number_bytes 4 box.x2) (number_bytes 4 box.y2)
     (e1 ∙ ap (λ n. o ++ number_bytes 4 n) f1) (e2 ∙ ap (λ n. o1 ++ number_bytes 4 n) f2) (e3 ∙ ap (λ n. o2 ++ number_bytes 4 n) f3) (e4 ∙ ap (λ n. o3 ++ number_bytes 4 n) f4)
 rect_written (Err e) o o1 o2 o3 o4 box x1 y1 x2 y2 f1 f2 f3 f4 e1 e2 e3 e4 = tt
+
+-- one element more is written
+pub element_written : {A : Type 0} (bytes : A → List ℕ) (xs : List A) (i : ℕ) (x : A) (before now whole : List ℕ) → slice_get xs i ≡ Some x → now ≡ before ++ bytes x
+    → before ++ flat_map bytes (drop i xs) ≡ whole → now ++ flat_map bytes (drop (i + 1) xs) ≡ whole
+element_written bytes xs i x before now whole e wrote so_far =
+    ap (λ t. t ++ flat_map bytes (drop (i + 1) xs)) wrote ∙ append_assoc before (bytes x) (flat_map bytes (drop (i + 1) xs))
+    ∙ ap (λ n. before ++ (bytes x ++ flat_map bytes (drop n xs))) (add-one i) ∙ sym (ap (λ ys. before ++ flat_map bytes ys) (drop_get xs i x e)) ∙ so_far
+
+-- the element at a place passes the test, and so do those after it
+pub each_here : {A : Type 0} (test : A → Bool) (xs : List A) (i : ℕ) (x : A) → slice_get xs i ≡ Some x → list_all test (drop i xs) ≡ true → test x ≡ true
+each_here test xs i x e all = first_of (test x) (list_all test (drop (suc i) xs)) (sym (ap (list_all test) (drop_get xs i x e)) ∙ all)
+
+pub each_rest : {A : Type 0} (test : A → Bool) (xs : List A) (i : ℕ) (x : A) → slice_get xs i ≡ Some x → list_all test (drop i xs) ≡ true → list_all test (drop (i + 1) xs) ≡ true
+each_rest test xs i x e all = ap (λ n. list_all test (drop n xs)) (add-one i) ∙ second_of (test x) (list_all test (drop (suc i) xs)) (sym (ap (list_all test) (drop_get xs i x e)) ∙ all)

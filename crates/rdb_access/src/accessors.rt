@@ -60,7 +60,8 @@ impl Accessors {
     /// their lowest byte first, in two's complement. A row that takes more than 4,000 bytes is `TooLong`. The cost grows with the row.
     pub fn encode(&self, row: &Row) -> Result<Bytes, EncodeFault>
         requires { IsTrue (row_fits self.now row.now) }
-        ensures { IsEncodeAnswer (row_bytes self.now row.now) result }
+        ensures answer { IsEncodeAnswer (row_bytes self.now row.now) result }
+        ensures encodes { IfOk result (Encodes self.now row.now) }
     {
         let mut bytes = List::new(self.alloc);
         append_row(&mut bytes, &self.types, row)?;

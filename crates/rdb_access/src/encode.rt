@@ -5,6 +5,8 @@ ghost use Rattle.std.specs.List.{list_all};
 ghost use Rattle.rdb_schema.specs.Values.{num_holds, leaf_holds};
 ghost use Rattle.rdb_access.specs.Types.{all_pairs, element_fits, value_fits, row_fits};
 ghost use Rattle.rdb_access.specs.Encoding.{pattern, number_bytes, text_bytes, rect_bytes, leaf_bytes, leaves_bytes, element_bytes, vector_bytes, value_bytes, row_bytes};
+ghost use Rattle.std.specs.Str.{IsUtf8};
+ghost use Rattle.rdb_access.specs.Proper.{HasEdges, IsProperLeaf, EachIs, IsProperElement, IsProperValue, IsProperRow};
 ghost use Rattle.rdb_access.specs.Answers.{IsEncodeAnswer};
 
 use crate::types::{ElementType, LeafTypes, ValueType, ValueTypes};
@@ -70,7 +72,8 @@ fn append_number(out: &mut Bytes, bytes: u8, signed: bool, number: i128) -> Resu
 
 fn append_text(out: &mut Bytes, words: &Text) -> Result<(), NoMemory>
     requires { length words.now ≤ 255 }
-    ensures { OnOk result (out.new ≡ out.old ++ text_bytes words.now) }
+    ensures appended { OnOk result (out.new ≡ out.old ++ text_bytes words.now) }
+    ensures proper { OnOk result (IsUtf8 words.now) }
 {
     let words = words.as_str().as_bytes();
     out.push(words.len() as u8)?;
@@ -78,7 +81,8 @@ fn append_text(out: &mut Bytes, words: &Text) -> Result<(), NoMemory>
 }
 
 fn append_rect(out: &mut Bytes, rect: Rect) -> Result<(), NoMemory>
-    ensures { OnOk result (out.new ≡ out.old ++ rect_bytes rect) }
+    ensures appended { OnOk result (out.new ≡ out.old ++ rect_bytes rect) }
+    ensures proper { OnOk result (HasEdges rect) }
 {
     let Rect { x1, y1, x2, y2 } = rect;
     append_number(out, 4, true, i128::from(x1))?;
@@ -89,7 +93,8 @@ fn append_rect(out: &mut Bytes, rect: Rect) -> Result<(), NoMemory>
 
 fn append_leaf(out: &mut Bytes, ty: FieldType, leaf: &Leaf) -> Result<(), NoMemory>
     requires { IsTrue (leaf_holds ty leaf.now) }
-    ensures { OnOk result (out.new ≡ out.old ++ leaf_bytes ty leaf.now) }
+    ensures appended { OnOk result (out.new ≡ out.old ++ leaf_bytes ty leaf.now) }
+    ensures proper { OnOk result (IsProperLeaf leaf.now) }
 {
     match (ty, leaf) {
         (FieldType::Num { bytes, signed }, Leaf::Num(number)) => append_number(
@@ -103,7 +108,8 @@ fn append_leaf(out: &mut Bytes, ty: FieldType, leaf: &Leaf) -> Result<(), NoMemo
 
 fn append_leaves(out: &mut Bytes, types: &LeafTypes, leaves: &Leaves) -> Result<(), NoMemory>
     requires { IsTrue (all_pairs leaf_holds types.now leaves.now) }
-    ensures { OnOk result (out.new ≡ out.old ++ leaves_bytes types.now leaves.now) }
+    ensures appended { OnOk result (out.new ≡ out.old ++ leaves_bytes types.now leaves.now) }
+    ensures proper { OnOk result (EachIs IsProperLeaf leaves.now) }
 {
     for at in 0..types.len().min(leaves.len()) {
         append_leaf(out, *types.at(at), leaves.at(at))?;
@@ -113,7 +119,8 @@ fn append_leaves(out: &mut Bytes, types: &LeafTypes, leaves: &Leaves) -> Result<
 
 fn append_element(out: &mut Bytes, ty: &ElementType, element: &Element) -> Result<(), NoMemory>
     requires { IsTrue (element_fits ty.now element.now) }
-    ensures { OnOk result (out.new ≡ out.old ++ element_bytes ty.now element.now) }
+    ensures appended { OnOk result (out.new ≡ out.old ++ element_bytes ty.now element.now) }
+    ensures proper { OnOk result (IsProperElement element.now) }
 {
     match (ty, element) {
         (ElementType::Leaf(ty), Element::Leaf(leaf)) => append_leaf(out, *ty, leaf),
@@ -122,12 +129,13 @@ fn append_element(out: &mut Bytes, ty: &ElementType, element: &Element) -> Resul
     }
 }
 
-fn append_elements(out: &mut Bytes, of: &ElementType, elements: &[Element]) -> Result<(), NoMemory>
+fn append_elements(out: &mut Bytes, of: &ElementType, elements: &Elements) -> Result<(), NoMemory>
     requires { IsTrue (list_all (element_fits of.now) elements.now) }
-    ensures { OnOk result (out.new ≡ out.old ++ flat_map (element_bytes of.now) elements.now) }
+    ensures appended { OnOk result (out.new ≡ out.old ++ flat_map (element_bytes of.now) elements.now) }
+    ensures proper { OnOk result (EachIs IsProperElement elements.now) }
 {
-    for element in elements {
-        append_element(out, of, element)?;
+    for at in 0..elements.len() {
+        append_element(out, of, elements.at(at))?;
     }
     Ok(())
 }
@@ -135,15 +143,17 @@ fn append_elements(out: &mut Bytes, of: &ElementType, elements: &[Element]) -> R
 fn append_vector(out: &mut Bytes, of: &ElementType, elements: &Elements) -> Result<(), NoMemory>
     requires few { length elements.now ≤ 64 }
     requires fit { IsTrue (list_all (element_fits of.now) elements.now) }
-    ensures { OnOk result (out.new ≡ out.old ++ vector_bytes of.now elements.now) }
+    ensures appended { OnOk result (out.new ≡ out.old ++ vector_bytes of.now elements.now) }
+    ensures proper { OnOk result (EachIs IsProperElement elements.now) }
 {
     out.push(elements.len() as u8)?;
-    append_elements(out, of, elements.as_slice())
+    append_elements(out, of, elements)
 }
 
 fn append_value(out: &mut Bytes, ty: &ValueType, value: &Value) -> Result<(), NoMemory>
     requires { IsTrue (value_fits ty.now value.now) }
-    ensures { OnOk result (out.new ≡ out.old ++ value_bytes ty.now value.now) }
+    ensures appended { OnOk result (out.new ≡ out.old ++ value_bytes ty.now value.now) }
+    ensures proper { OnOk result (IsProperValue value.now) }
 {
     match (ty, value) {
         (ValueType::Leaf(ty), Value::Leaf(leaf)) => append_leaf(out, *ty, leaf),
@@ -156,7 +166,8 @@ fn append_value(out: &mut Bytes, ty: &ValueType, value: &Value) -> Result<(), No
 /// Appends the encoding of a row whose values are of these types. The cost grows with the row.
 pub(crate) fn append_row(out: &mut Bytes, types: &ValueTypes, row: &Row) -> Result<(), NoMemory>
     requires { IsTrue (row_fits types.now row.now) }
-    ensures { OnOk result (out.new ≡ out.old ++ row_bytes types.now row.now) }
+    ensures appended { OnOk result (out.new ≡ out.old ++ row_bytes types.now row.now) }
+    ensures proper { OnOk result (IsProperRow row.now) }
 {
     for at in 0..types.len().min(row.len()) {
         append_value(out, types.at(at), row.at(at))?;

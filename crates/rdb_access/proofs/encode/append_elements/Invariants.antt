@@ -1,12 +1,14 @@
-use Rattle.std.proofs.Common.{◌≡◌, ◌++◌, drop, take, true, flat_map}
+use Rattle.std.proofs.Common.{◌≡◌, ◌++◌, drop, true, flat_map}
 use Rattle.std.specs.List.{list_all}
 use Rattle.rdb_access.specs.Types.{element_fits}
+use Rattle.rdb_access.specs.Proper.{EachIs, IsProperElement}
 use Rattle.rdb_access.specs.Encoding.{element_bytes}
 use Rattle.rdb_access.proofs.encode.append_elements.Given as goal
 
--- the bytes of the elements so far are written, and the others are of the type
-abbrev pub invariant-loop-element : goal.invariant-loop-element
-invariant-loop-element l = record {
-  written : l.out ≡ l.initial.out ++ flat_map (element_bytes l.of) (take l.element-index l.elements);
-  left : list_all (element_fits l.of) (drop l.element-index l.elements) ≡ true;
+-- what is written and the bytes of the elements that are left are those of all
+abbrev pub invariant-loop-at : goal.invariant-loop-at
+invariant-loop-at l = record {
+  written : l.out ++ flat_map (element_bytes l.of) (drop l.at l.elements) ≡ l.initial.out ++ flat_map (element_bytes l.of) l.elements;
+  left : list_all (element_fits l.of) (drop l.at l.elements) ≡ true;
+  proper : EachIs IsProperElement (drop l.at l.elements) → EachIs IsProperElement l.elements;
 }

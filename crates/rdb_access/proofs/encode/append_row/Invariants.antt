@@ -1,5 +1,6 @@
 use Rattle.std.proofs.Common.{◌≡◌, ◌++◌, drop, true}
 use Rattle.rdb_access.specs.Types.{row_fits}
+use Rattle.rdb_access.specs.Proper.{EachIs, IsProperValue}
 use Rattle.rdb_access.specs.Encoding.{row_bytes}
 use Rattle.rdb_access.proofs.encode.append_row.Given as goal
 
@@ -8,4 +9,5 @@ abbrev pub invariant-loop-at : goal.invariant-loop-at
 invariant-loop-at l = record {
   written : l.out ++ row_bytes (drop l.at l.types) (drop l.at l.row) ≡ l.initial.out ++ row_bytes l.types l.row;
   left : row_fits (drop l.at l.types) (drop l.at l.row) ≡ true;
+  proper : EachIs IsProperValue (drop l.at l.row) → EachIs IsProperValue l.row;
 }
