@@ -5,3 +5,4 @@ pub mod Places
 pub mod References
 pub mod Words
 pub mod Memory
+pub mod Index

@@ -4,6 +4,8 @@
 
 mod cells;
 mod free;
+mod index;
+mod keys;
 mod kind;
 mod laws;
 mod log;
@@ -19,6 +21,8 @@ mod tests;
 mod undo;
 
 pub use cells::{Cells, Region};
+pub use index::{Index, Refs};
+pub use keys::Keys;
 pub use kind::{Kind, high, is_zero, kind_of, wide};
 pub use laws::records_go_back_in_any_order;
 pub use log::{log_write, take_back};
