@@ -1,1 +1,4 @@
+pub mod Job
+pub mod JobScripts
 pub mod Schedule
+pub mod Stream

@@ -5,8 +5,13 @@ mod decimal;
 pub mod fault;
 mod front;
 pub mod item;
+mod job;
+mod job_script;
 mod schedule_reader;
+mod stream;
 #[cfg(test)]
 mod tests;
+mod transaction;
 
+pub use job::job_files;
 pub use schedule_reader::schedule;

@@ -1,6 +1,7 @@
 use crate::fault::ScheduleFault;
 use crate::item::Item;
-use crate::schedule;
+use crate::{job_files, schedule};
+use rdb_base::files::{Files, ReadFault};
 use std::alloc::Global;
 use std::process::Abort;
 use std::test::Fail;
@@ -85,5 +86,69 @@ fn a_schedule_has_at_most_100_000_items(rt: HostRuntime) -> Result<(), Fail> {
     assert_eq!(rt; items.len(), 100_000);
     text.extend_from_slice(b"s x")?;
     expect_refused(&rt, rt.alloc(), text.as_slice(), 1, 100_001);
+    Ok(())
+}
+
+#[test]
+fn scripts_of_the_job_begin_with_what_their_streams_give(rt: HostRuntime) -> Result<(), Fail> {
+    let mut files = job_files(rt.alloc(), 7)?;
+    let scripts = [
+        (
+            "client1",
+            "begin ro\narea Place.byArea overlaps [312,12,412,112]\nprefix Item.pName starting \"1-\"\ncommit\nbegin rw retry 4\nx = find Item.byName {\"7-124\"}\nput Item x {\"7-124\",10,2691}\ncommit\nbegin rw retry 4\nx = find Item.byName {\"6-16\"}\n",
+        ),
+        (
+            "client2",
+            "begin rw retry 4\ny = seek Item.byStock first\ndel Item y\ncommit\nbegin ro\nseek Sale.byDay ge {7,0}\ncount Item\ncommit\nbegin rw retry 4\nnew Place {[715,27,723,44],\"2-3\"}\n",
+        ),
+        (
+            "client3",
+            "stop 500\nbegin rw retry 4\nx = find Item.byName {\"3-84\"}\nput Item x {\"3-84\",74,4624}\ncommit\nbegin rw retry 4\nx = find Item.byName {\"8-196\"}\nput Item x {\"8-196\",16,5156}\ncommit\nbegin rw retry 4\n",
+        ),
+        (
+            "client4",
+            "begin ro\narea Place.byArea overlaps [851,143,951,243]\nprefix Item.pName starting \"4-\"\ncommit\nbegin rw retry 4\nnew Item {\"4-2\",34,2483}\ncommit\nbegin rw retry 4\nx = find Item.byName {\"3-141\"}\nput Item x {\"3-141\",63,2675}\n",
+        ),
+        (
+            "client5",
+            "begin rw retry 4\ny = seek Item.byStock first\ndel Item y\ncommit\nbegin ro\narea Place.byArea overlaps [402,842,502,942]\nprefix Item.pName starting \"5-\"\ncommit\nbegin ro\nseek Sale.byDay ge {182,0}\n",
+        ),
+        (
+            "client6",
+            "stop 500\nbegin rw retry 4\nx = find Item.byName {\"6-63\"}\nput Item x {\"6-63\",75,3704}\ncommit\nbegin rw retry 4\nx = find Item.byName {\"7-27\"}\nput Item x {\"7-27\",41,978}\ncommit\nbegin rw retry 4\n",
+        ),
+        (
+            "client7",
+            "begin ro\narea Place.byArea overlaps [390,921,490,1021]\nprefix Item.pName starting \"7-\"\ncommit\nbegin rw retry 4\ny = seek Item.byStock first\ndel Item y\ncommit\nbegin ro\nseek Sale.byDay ge {155,0}\n",
+        ),
+        (
+            "client8",
+            "begin rw retry 4\ny = seek Item.byStock first\ndel Item y\ncommit\nbegin ro\nseek Sale.byDay ge {321,0}\ncount Item\ncommit\nbegin rw retry 4\nx = find Item.byName {\"3-100\"}\n",
+        ),
+    ];
+    for (name, begin) in scripts {
+        let text = files.read(rt.alloc(), name, 1_000_000)?;
+        assert!(rt; text.as_slice().starts_with(begin.as_bytes()));
+    }
+    assert_eq!(rt;
+        files.read(rt.alloc(), "client9", 1_000_000),
+        Err(ReadFault::Failed)
+    );
+    Ok(())
+}
+
+#[test]
+fn schedule_of_the_job_has_12_800_items(rt: HostRuntime) -> Result<(), Fail> {
+    let mut files = job_files(rt.alloc(), 7)?;
+    let text = files.read(rt.alloc(), "schedule", 1_000_000)?;
+    assert!(rt;
+        text.as_slice()
+            .starts_with(b"7*\n2*\n2*\n1\n4*\n4*\n1\n6*\n6*\n5*\n")
+    );
+    let items = schedule(rt.alloc(), text.as_slice(), 8)?;
+    assert_eq!(rt; items.len(), 12_800);
+    assert_eq!(rt; *items.at(3_999), Item::Unit(7));
+    assert_eq!(rt; *items.at(4_000), Item::Unit(1));
+    assert_eq!(rt; *items.at(12_799), Item::Unit(8));
     Ok(())
 }
