@@ -6,3 +6,7 @@ pub mod FitsLemmas
 pub mod FittingLemmas
 pub mod TouchLemmas
 pub mod LawsLemmas
+pub mod FirstFaultLemmas
+pub mod TallyLemmas
+pub mod JudgingLemmas
+pub mod AnsweringLemmas

@@ -9,3 +9,5 @@ pub mod Serial
 pub mod Fits
 pub mod Others
 pub mod Seek
+pub mod FirstFault
+pub mod Tallies
