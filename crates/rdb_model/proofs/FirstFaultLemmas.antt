@@ -140,7 +140,7 @@ least {A} fault journal earlier [] best is right all none = by_best best right
     by_best : (b : Option (ℕ × A)) → IsFault fault journal b → first_at fault earlier [] ≡ b
     by_best None right = refl
     by_best (Some b) right = let no = none b.0 (within b right.at) in let yes : fault_at fault journal b.0 ≡ Some b.1 = right.at in absurd (cc)
-least {A} fault journal earlier (e ∷ es) best is right all none = by_fault (fault earlier e) refl
+least {A} fault journal earlier (e ∷ es) best is right all none = by_fault (fault earlier e) refl (λ was. least fault journal (earlier ++ e ∷ []) es best (is ∙ sym (append_assoc earlier (e ∷ []) es)) right all (more was))
   where
     here : fault_at fault journal (length earlier) ≡ fault earlier e
     here = ap (λ j. fault_at fault j (length earlier)) is ∙ fault_at_here fault earlier es e
@@ -157,17 +157,16 @@ least {A} fault journal earlier (e ∷ es) best is right all none = by_fault (fa
             ap₂ (λ n x. Some (n, x)) (sym same) (sym one)
         by_order (inr (inl less)) = let no = none b.0 less in let yes : fault_at fault journal b.0 ≡ Some b.1 = right.at in absurd (cc)
         by_order (inr (inr more)) = let h = leb-true b.0 (length earlier) s in absurd (omega arith)
-    by_fault : (f : Option A) → fault earlier e ≡ f → option_or (option_map (λ x. (length earlier, x)) f) (first_at fault (earlier ++ e ∷ []) es) ≡ best
-    by_fault (Some f) was = by_best f was best right (subst (λ o. settled best (length earlier) o ≡ true) (here ∙ was) (all (length earlier) long))
-    by_fault None was = least fault journal (earlier ++ e ∷ []) es best (is ∙ sym (append_assoc earlier (e ∷ []) es)) right all more
+    more : fault earlier e ≡ None → (k : ℕ) → k < length (earlier ++ e ∷ []) → fault_at fault journal k ≡ None
+    more was k h = by_order (cases_order k (length earlier))
       where
-        more : (k : ℕ) → k < length (earlier ++ e ∷ []) → fault_at fault journal k ≡ None
-        more k h = by_order (cases_order k (length earlier))
-          where
-            by_order : (k ≡ length earlier) ⊎ ((k < length earlier) ⊎ (length earlier < k)) → fault_at fault journal k ≡ None
-            by_order (inl same) = ap (fault_at fault journal) same ∙ here ∙ was
-            by_order (inr (inl less)) = none k less
-            by_order (inr (inr over)) = let n : length (earlier ++ e ∷ []) ≡ length earlier + 1 = length_push earlier e in absurd (omega arith)
+        by_order : (k ≡ length earlier) ⊎ ((k < length earlier) ⊎ (length earlier < k)) → fault_at fault journal k ≡ None
+        by_order (inl same) = ap (fault_at fault journal) same ∙ here ∙ was
+        by_order (inr (inl less)) = none k less
+        by_order (inr (inr over)) = let n : length (earlier ++ e ∷ []) ≡ length earlier + 1 = length_push earlier e in absurd (omega arith)
+    by_fault : (f : Option A) → fault earlier e ≡ f → (fault earlier e ≡ None → first_at fault (earlier ++ e ∷ []) es ≡ best) → option_or (option_map (λ x. (length earlier, x)) f) (first_at fault (earlier ++ e ∷ []) es) ≡ best
+    by_fault (Some f) was rest = by_best f was best right (subst (λ o. settled best (length earlier) o ≡ true) (here ∙ was) (all (length earlier) long))
+    by_fault None was rest = rest was
 
 -- what was settled stays so with the earlier of two faults, and the new one is settled
 pub settled_earlier : (best : Option (ℕ × ℕ)) (place k : ℕ) (wrong f : Option ℕ) → settled best k f ≡ true → settled (earlier_of best place wrong) k f ≡ true

@@ -145,14 +145,14 @@ earliest_keeps schema db journal best (p ∷ ps) k f s = earliest_keeps schema d
 
 pub earliest_settles : (schema : Schema) (db : Database) (journal : List Entry) (best : Option (ℕ × ℕ)) (places : List ℕ) (k : ℕ) → list_any (nat_eq k) places ≡ true → settled (earliest_read schema db journal best places) k (option_map_or (wrong_read schema db) (slice_get journal k) None) ≡ true
 earliest_settles schema db journal best [] k h = absurd (cc)
-earliest_settles schema db journal best (p ∷ ps) k h = by_test (or_cases (nat_eq k p) (list_any (nat_eq k) ps) h)
+earliest_settles schema db journal best (p ∷ ps) k h = by_test (or_cases (nat_eq k p) (list_any (nat_eq k) ps) h) (λ g. earliest_settles schema db journal (earlier_of best p (option_map_or (wrong_read schema db) (slice_get journal p) None)) ps k g)
   where
-    by_test : (nat_eq k p ≡ true) ⊎ (list_any (nat_eq k) ps ≡ true) → settled (earliest_read schema db journal best (p ∷ ps)) k (option_map_or (wrong_read schema db) (slice_get journal k) None) ≡ true
-    by_test (inl e) =
+    by_test : (nat_eq k p ≡ true) ⊎ (list_any (nat_eq k) ps ≡ true) → (list_any (nat_eq k) ps ≡ true → settled (earliest_read schema db journal (earlier_of best p (option_map_or (wrong_read schema db) (slice_get journal p) None)) ps) k (option_map_or (wrong_read schema db) (slice_get journal k) None) ≡ true) → settled (earliest_read schema db journal best (p ∷ ps)) k (option_map_or (wrong_read schema db) (slice_get journal k) None) ≡ true
+    by_test (inl e) rest =
         let same : k ≡ p = eqb-true k p e in
         earliest_keeps schema db journal (earlier_of best p (option_map_or (wrong_read schema db) (slice_get journal p) None)) ps k (option_map_or (wrong_read schema db) (slice_get journal k) None)
             (subst (λ q. settled (earlier_of best p (option_map_or (wrong_read schema db) (slice_get journal p) None)) q (option_map_or (wrong_read schema db) (slice_get journal q) None) ≡ true) (sym same) (settled_new best p (option_map_or (wrong_read schema db) (slice_get journal p) None)))
-    by_test (inr g) = earliest_settles schema db journal (earlier_of best p (option_map_or (wrong_read schema db) (slice_get journal p) None)) ps k g
+    by_test (inr g) rest = rest g
 
 -- how far a journal is judged: the commits before a place, and the reads that see no more than so many of them
 pub record Judged (schema : Schema) (journal : List Entry) (place : ℕ) (db : Database) (made : BTreeSet (ℕ × ℕ)) (seen : ℕ) (best : Option (ℕ × ℕ)) : Type 0 where
@@ -196,10 +196,10 @@ judged_other schema journal place db made seen best e so at none = record {
     more : take (place + 1) journal ≡ take place journal ++ e ∷ []
     more = take_push journal place e at
     before : (k : ℕ) → k < place + 1 → option_map_or is_commit (slice_get journal k) false ≡ true → settled best k (fault_at (breaks_reply schema) journal k) ≡ true
-    before k h yes = by_order (cases_eq k place)
+    before k h there = by_order (cases_eq k place)
       where
         by_order : (k ≡ place) ⊎ (k ≡ place → ⊥) → settled best k (fault_at (breaks_reply schema) journal k) ≡ true
-        by_order (inr ne) = so.commits_done k (omega arith) yes
+        by_order (inr ne) = so.commits_done k (omega arith) there
         by_order (inl same) = let no : option_map_or is_commit (slice_get journal k) false ≡ false = ap (λ i. option_map_or is_commit (slice_get journal i) false) same ∙ ap (λ o. option_map_or is_commit o false) at ∙ commit_no e none in absurd (cc)
 
 -- a commit, and the reads that see it
@@ -224,10 +224,10 @@ judged_commit schema journal place db next made more seen best last wrong e done
     keeps : (k : ℕ) (f : Option ℕ) → settled (earlier_of best place wrong) k f ≡ true → settled last k f ≡ true
     keeps k f s = ap (λ b. settled b k f) found ∙ earliest_keeps schema next journal (earlier_of best place wrong) (slice_index_or readers (seen + 1) []) k f s
     before : (k : ℕ) → k < place + 1 → option_map_or is_commit (slice_get journal k) false ≡ true → settled last k (fault_at (breaks_reply schema) journal k) ≡ true
-    before k h yes = by_order (cases_eq k place)
+    before k h there = by_order (cases_eq k place)
       where
         by_order : (k ≡ place) ⊎ (k ≡ place → ⊥) → settled last k (fault_at (breaks_reply schema) journal k) ≡ true
-        by_order (inr ne) = keeps k (fault_at (breaks_reply schema) journal k) (settled_earlier best place k wrong (fault_at (breaks_reply schema) journal k) (so.commits_done k (omega arith) yes))
+        by_order (inr ne) = keeps k (fault_at (breaks_reply schema) journal k) (settled_earlier best place k wrong (fault_at (breaks_reply schema) journal k) (so.commits_done k (omega arith) there))
         by_order (inl same) = keeps k (fault_at (breaks_reply schema) journal k) (subst (λ f. settled (earlier_of best place wrong) k f ≡ true) (fault ∙ ap (fault_at (breaks_reply schema) journal) (sym same)) (subst (λ i. settled (earlier_of best place wrong) i wrong ≡ true) (sym same) (settled_new best place wrong)))
     read : (n k : ℕ) → n ≤ seen + 1 → sees journal n k ≡ true → settled last k (fault_at (breaks_reply schema) journal k) ≡ true
     read n k h s = by_order (cases_eq n (seen + 1))
@@ -249,14 +249,14 @@ fits_commit schema (entry.Closed client) done fit is = absurd (cc)
 -- no entry of a journal without a first fault has one
 pub no_fault_at : {A : Type 0} (fault : List Entry → Entry → Option A) (earlier es : List Entry) (k : ℕ) (e : Entry) → first_at fault earlier es ≡ None → slice_get es k ≡ Some e → fault (earlier ++ take k es) e ≡ None
 no_fault_at fault earlier [] k e none at = absurd (cc)
-no_fault_at {A} fault earlier (x ∷ xs) k e none at = by_fault (fault earlier x) refl none
+no_fault_at {A} fault earlier (x ∷ xs) k e none at = by_fault (fault earlier x) refl none (λ n rest got. no_fault_at fault (earlier ++ x ∷ []) xs n e rest got)
   where
-    by_place : (n : ℕ) → fault earlier x ≡ None → first_at fault (earlier ++ x ∷ []) xs ≡ None → slice_get (x ∷ xs) n ≡ Some e → fault (earlier ++ take n (x ∷ xs)) e ≡ None
-    by_place zero here rest at = let same : x ≡ e = cc in ap₂ fault (append-nil earlier) (sym same) ∙ here
-    by_place (suc n) here rest at = ap (λ l. fault l e) (sym (append_assoc earlier (x ∷ []) (take n xs))) ∙ no_fault_at fault (earlier ++ x ∷ []) xs n e rest at
-    by_fault : (f : Option A) → fault earlier x ≡ f → first_at fault earlier (x ∷ xs) ≡ None → fault (earlier ++ take k (x ∷ xs)) e ≡ None
-    by_fault None is none = by_place k is (sym (ap (λ o. option_or (option_map (λ (f : A). (length earlier, f)) o) (first_at fault (earlier ++ x ∷ []) xs)) is) ∙ none) at
-    by_fault (Some f) is none = let some = ap (λ o. option_or (option_map (λ (f : A). (length earlier, f)) o) (first_at fault (earlier ++ x ∷ []) xs)) is in absurd (cc)
+    by_place : (n : ℕ) → fault earlier x ≡ None → first_at fault (earlier ++ x ∷ []) xs ≡ None → slice_get (x ∷ xs) n ≡ Some e → ((m : ℕ) → first_at fault (earlier ++ x ∷ []) xs ≡ None → slice_get xs m ≡ Some e → fault ((earlier ++ x ∷ []) ++ take m xs) e ≡ None) → fault (earlier ++ take n (x ∷ xs)) e ≡ None
+    by_place zero here rest got later = let same : x ≡ e = cc in ap₂ fault (append-nil earlier) (sym same) ∙ here
+    by_place (suc n) here rest got later = ap (λ l. fault l e) (sym (append_assoc earlier (x ∷ []) (take n xs))) ∙ later n rest got
+    by_fault : (f : Option A) → fault earlier x ≡ f → first_at fault earlier (x ∷ xs) ≡ None → ((m : ℕ) → first_at fault (earlier ++ x ∷ []) xs ≡ None → slice_get xs m ≡ Some e → fault ((earlier ++ x ∷ []) ++ take m xs) e ≡ None) → fault (earlier ++ take k (x ∷ xs)) e ≡ None
+    by_fault None is none later = by_place k is (sym (ap (λ o. option_or (option_map (λ (f : A). (length earlier, f)) o) (first_at fault (earlier ++ x ∷ []) xs)) is) ∙ none) at later
+    by_fault (Some f) is none later = let some = ap (λ o. option_or (option_map (λ (f : A). (length earlier, f)) o) (first_at fault (earlier ++ x ∷ []) xs)) is in absurd (cc)
 
 -- a read that is well placed sees commits before it
 pub placed_sees : (journal : List Entry) (k : ℕ) (story : Story) → first_at misplaced [] journal ≡ None → slice_get journal k ≡ Some (entry.Read story) → sees journal story.snapshot k ≡ true

@@ -1,6 +1,6 @@
 //! Whether the replies of a story are the plain database's. It does the story's operations on a database that it is lent.
 
-ghost use Rattle.std.specs.Prelude.{◌≡◌, ℕ, ◌<◌, ◌^◌, false, [], ◌∷◌, ◌++◌, List, length, IfOk, OnOk, if◌then◌else◌};
+ghost use Rattle.std.specs.Prelude.{◌≡◌, ℕ, ◌<◌, ◌^◌, ◌&&◌, not, false, [], ◌∷◌, ◌++◌, List, length, IfOk, OnOk, if◌then◌else◌};
 ghost use Rattle.std.specs.Option.{option_map_or, option_or};
 ghost use Rattle.rdb_base.specs.declared.identity.Kind.{Kind};
 ghost use Rattle.rdb_model.specs.Fits.{AllFit, HasFewIndexes};
@@ -33,24 +33,26 @@ pub(crate) fn wrong_in_commit(
     ensures made { (objects : List (ℕ × ℕ)) → HasMade objects made.old → OnOk result (HasMade (objects ++ made_in done.now) made.new) }
     ensures classes { length db.new ≡ length db.old }
 {
+    let operations = done.as_slice();
     let mut wrong = None;
-    for (place, (op, told)) in done.as_slice().iter().enumerate() {
+    for (place, (op, told)) in operations.iter().enumerate() {
         let answer = db.apply(schema, op)?;
         let again = makes_again(made, op, told)?;
-        let right = same_reply(&answer, told) && !again;
-        wrong = first_wrong(wrong, right, place as u32 + 1);
+        let same = same_reply(&answer, told);
+        wrong = first_wrong(wrong, same, again, place as u32 + 1);
     }
     Ok(wrong)
 }
 
-// The first wrong operation so far and this one.
-fn first_wrong(wrong: Option<u32>, right: bool, number: u32) -> Option<u32>
-    ensures { result ≡ option_or wrong (if right then None else Some number) }
+// The first wrong operation so far; else this one, where its reply isn't the same or it makes an object again.
+fn first_wrong(wrong: Option<u32>, same: bool, again: bool, number: u32) -> Option<u32>
+    ensures { result ≡ option_or wrong (if same && not again then None else Some number) }
 {
-    if wrong.is_none() && !right {
-        Some(number)
-    } else {
-        wrong
+    match wrong {
+        Some(_) => wrong,
+        None => {
+            if same && !again { None } else { Some(number) }
+        }
     }
 }
 
@@ -68,7 +70,8 @@ pub(crate) fn wrong_in_read(
     ensures wrong { IfOk result (λ wrong. wrong ≡ wrong_reply schema.now db.old [] 1 done.now) }
     ensures same { OnOk result (db.new ≡ db.old) }
 {
-    for (place, (op, told)) in done.as_slice().iter().enumerate() {
+    let operations = done.as_slice();
+    for (place, (op, told)) in operations.iter().enumerate() {
         let answer = db.apply(schema, op)?;
         if !same_reply(&answer, told) {
             return Ok(Some(place as u32 + 1));

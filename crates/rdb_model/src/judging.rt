@@ -1,7 +1,7 @@
 //! The first wrong reply of a journal whose entries are well placed. It folds the commits once, and judges each read on the database that it
 //! sees. It touches the memory that it takes alone.
 
-ghost use Rattle.std.specs.Prelude.{◌≡◌, [], ◌∷◌, ◌++◌, List, length, slice_get, None, IfOk, OnOk};
+ghost use Rattle.std.specs.Prelude.{◌≡◌, [], ◌∷◌, ◌++◌, List as Listed, length, slice_get, None, IfOk, OnOk};
 ghost use Rattle.std.specs.List.{All};
 ghost use Rattle.std.specs.Option.{option_map, option_map_or};
 ghost use Rattle.rdb_base.specs.declared.journal.Entry.{Entry};
@@ -86,7 +86,7 @@ fn add_reader(
     place: usize,
     entry: &Entry,
 ) -> Result<(), NoMemory>
-    ensures { (earlier : List Entry) → length earlier ≡ place → AreReaders earlier readers.old.items → OnOk result (AreReaders (earlier ++ entry.now ∷ []) readers.new.items) }
+    ensures { (earlier : Listed Entry) → length earlier ≡ place → AreReaders earlier readers.old.items → OnOk result (AreReaders (earlier ++ entry.now ∷ []) readers.new.items) }
 {
     match entry {
         Entry::Commit {
@@ -100,7 +100,14 @@ fn add_reader(
             }
             Ok(())
         }
-        _ => Ok(()),
+        Entry::Abort { story: _, cause: _ } => Ok(()),
+        Entry::Handled {
+            client: _,
+            by: _,
+            at: _,
+            finished: _,
+        } => Ok(()),
+        Entry::Closed { client: _ } => Ok(()),
     }
 }
 
