@@ -1,16 +1,17 @@
 -- One operation more of a story that is judged.
-use Rattle.std.proofs.Common.{◌≡◌, ℕ, ◌+◌, ◌<◌, Bool, true, false, cond, not, ◌&&◌, IsTrue, List, [], ◌∷◌, ◌++◌, length, take, drop, get_or, Option, Some, None, refl, sym, ap, ap₂, ◌∙◌, append_assoc, filter_map, is_none, length-set}
+use Rattle.std.proofs.Common.{◌≡◌, ℕ, ◌+◌, ◌<◌, Bool, true, false, cond, not, ◌&&◌, List, [], ◌∷◌, ◌++◌, length, take, drop, get_or, Option, Some, None, refl, sym, ap, ap₂, ◌∙◌, subst, append_assoc, is_none, length-set}
 use Rattle.std.specs.List.{cons_option}
 use Rattle.std.specs.Option.{option_map_or, option_or}
 use Rattle.std.proofs.lemmas.List.{take_more, drop_more}
 use Rattle.std.proofs.lemmas.List.Elements.{filter_map-append}
+use Rattle.rdb_base.specs.declared.identity.Kind.{Kind}
 use Rattle.rdb_base.specs.declared.identity.Kind.TheVariants as kind
 use Rattle.rdb_base.specs.declared.operation.Op.{Op}
 use Rattle.rdb_base.specs.declared.operation.Op.TheVariants as op
 use Rattle.rdb_base.specs.declared.operation.Reply.{Reply}
 use Rattle.rdb_schema.specs.declared.schema.Schema.{Schema}
 use Rattle.rdb_model.specs.Database.{Database, objects_of, with_objects, row_of, with_row, without}
-use Rattle.rdb_model.specs.Fits.{Fits}
+use Rattle.rdb_model.specs.Fits.{Fits, AllFit}
 use Rattle.rdb_model.specs.Answer.{answer, clash, written}
 use Rattle.rdb_model.specs.Story.{same_reply, after}
 use Rattle.rdb_model.specs.Journal.{wrong_reply, was_made, made_by, made_in}
@@ -91,6 +92,7 @@ read_more schema db done i n d within is fit =
     and_true : (b : Bool) → (b && true) ≡ b
     and_true true = refl
     and_true false = refl
+
     by_made : (made : Option (ℕ × ℕ)) → made ≡ None → cond (same_reply (answer schema db d.0).0 d.1 && not (option_map_or (was_made []) made false)) (wrong_reply schema (answer schema db d.0).1 ([] ++ cons_option made []) (n + 1) (drop (i + 1) done)) (Some n) ≡ cond (same_reply (answer schema db d.0).0 d.1) (wrong_reply schema (answer schema db d.0).1 [] (n + 1) (drop (i + 1) done)) (Some n)
     by_made None is = ap (λ b. cond b (wrong_reply schema (answer schema db d.0).1 [] (n + 1) (drop (i + 1) done)) (Some n)) (and_true (same_reply (answer schema db d.0).0 d.1))
     by_made (Some m) is = absurd (cc)
@@ -125,3 +127,12 @@ answer_classes schema db (op.Seek class index from up) = refl
 answer_classes schema db (op.Area class index rect inside) = refl
 answer_classes schema db (op.Prefix class index text way) = refl
 answer_classes schema db (op.Count class) = refl
+
+-- the operation at a place fits where all do
+pub fits_at : (schema : Schema) (may : Kind) (all done : List (Op × Reply)) (i : ℕ) (d : Op × Reply) → AllFit schema may all → done ≡ all → i < length done → d ≡ get_or done i d → Fits schema d.0 may
+fits_at schema may all done i d fit same within is = subst (λ (x : Op × Reply). Fits schema x.0 may) (sym is) (subst (AllFit schema may) (sym same) fit i d within)
+
+-- a first wrong operation, or else none
+pub or_nothing : (wrong : Option ℕ) → wrong ≡ option_or wrong None
+or_nothing None = refl
+or_nothing (Some w) = refl

@@ -1,12 +1,11 @@
 -- The first fault of a journal is the first wrong reply before the first misplaced entry, else that entry; and the first fault is the least.
-use Rattle.std.proofs.Common.{◌≡◌, ℕ, ◌+◌, ◌-◌, ◌<◌, ◌≤◌, ◌⊎◌, Bool, true, false, cond, nat_le, List, [], ◌∷◌, ◌++◌, length, take, drop, slice_get, Option, Some, None, IfSome, All, refl, sym, ap, ◌∙◌, subst, inl, inr, ap₂, zero, suc, append_assoc, append-nil, length-append, arith, le-leb, leb-true, leb-false}
+use Rattle.std.proofs.Common.{◌≡◌, ℕ, ◌+◌, ◌-◌, ◌<◌, ◌≤◌, ◌⊎◌, Bool, true, false, cond, nat_le, List, [], ◌∷◌, ◌++◌, length, take, drop, slice_get, Option, Some, None, IfSome, All, refl, sym, ap, ◌∙◌, subst, inl, inr, ap₂, suc, append_assoc, append-nil, length-append, arith, le-leb, leb-true, leb-false}
 use Rattle.std.specs.Option.{option_map, option_map_or, option_or}
-use Rattle.std.proofs.lemmas.Option.{slice_get_past, slice_get_within, get_or_from_slice_get}
+use Rattle.std.proofs.lemmas.Option.{slice_get_within, get_or_from_slice_get}
 use Rattle.std.proofs.lemmas.Bool.{cases_order}
 use Rattle.std.proofs.lemmas.List.{take_at, length_push, take_more, drop_more, drop_all, length-take-le, length-take, get_or-take}
 use Rattle.rdb_base.specs.declared.journal.Entry.{Entry}
 use Rattle.rdb_schema.specs.declared.schema.Schema.{Schema}
-use Rattle.rdb_model.specs.declared.legality.Legality.{Legality}
 use Rattle.rdb_model.specs.declared.legality.Legality.TheVariants as legality
 use Rattle.rdb_model.specs.declared.legality.Why.{Why}
 use Rattle.rdb_model.specs.declared.legality.Why.TheVariants as why
@@ -43,6 +42,7 @@ judged_by_parts schema earlier (e ∷ es) =
     by_reply : (r : Option ℕ) → judged schema (earlier ++ e ∷ []) es ≡ verdict (first_at (breaks_reply schema) (earlier ++ e ∷ []) (placed (earlier ++ e ∷ []) es)) (first_at misplaced (earlier ++ e ∷ []) es) → option_map_or (legality.Illegal (length earlier + 1)) (option_map why.Reply r) (judged schema (earlier ++ e ∷ []) es) ≡ verdict (option_or (option_map (λ f. (length earlier, f)) r) (first_at (breaks_reply schema) (earlier ++ e ∷ []) (placed (earlier ++ e ∷ []) es))) (first_at misplaced (earlier ++ e ∷ []) es)
     by_reply None rest = rest
     by_reply (Some k) rest = refl
+
     by_place : (m : Option Why) → judged schema (earlier ++ e ∷ []) es ≡ verdict (first_at (breaks_reply schema) (earlier ++ e ∷ []) (placed (earlier ++ e ∷ []) es)) (first_at misplaced (earlier ++ e ∷ []) es) → option_map_or (legality.Illegal (length earlier + 1)) (option_or m (option_map why.Reply (breaks_reply schema earlier e))) (judged schema (earlier ++ e ∷ []) es) ≡ verdict (first_at (breaks_reply schema) earlier (kept m e (placed (earlier ++ e ∷ []) es))) (option_or (option_map (λ f. (length earlier, f)) m) (first_at misplaced (earlier ++ e ∷ []) es))
     by_place None rest = by_reply (breaks_reply schema earlier e) rest
     by_place (Some w) rest = refl
@@ -72,6 +72,7 @@ placed_is earlier (e ∷ es) = by_place (misplaced earlier e) (placed_is (earlie
         let more : length (earlier ++ e ∷ []) ≡ length earlier + 1 = length_push earlier e in
         let less : found.0 - length earlier ≡ suc (found.0 - length (earlier ++ e ∷ [])) = omega arith in
         sym (ap (λ k. take k (e ∷ es)) less)
+
     by_place : (m : Option Why) → placed (earlier ++ e ∷ []) es ≡ before_from (length (earlier ++ e ∷ [])) (first_at misplaced (earlier ++ e ∷ []) es) es → kept m e (placed (earlier ++ e ∷ []) es) ≡ before_from (length earlier) (option_or (option_map (λ f. (length earlier, f)) m) (first_at misplaced (earlier ++ e ∷ []) es)) (e ∷ es)
     by_place None rest = ap (λ l. e ∷ l) rest ∙ step (first_at misplaced (earlier ++ e ∷ []) es) refl
     by_place (Some w) rest = let none : length earlier - length earlier ≡ 0 = omega arith in sym (ap (λ k. take k (e ∷ es)) none)
@@ -137,6 +138,7 @@ least {A} fault journal earlier [] best is right all none = by_best best right
         by_get : (o : Option Entry) → slice_get journal b.0 ≡ o → option_map_or (fault (take b.0 journal)) o None ≡ Some b.1 → b.0 < length earlier
         by_get None at found = absurd (cc)
         by_get (Some e) at found = let h = slice_get_within journal b.0 e at in let same : length journal ≡ length earlier = ap length (is ∙ append-nil earlier) in omega arith
+
     by_best : (b : Option (ℕ × A)) → IsFault fault journal b → first_at fault earlier [] ≡ b
     by_best None right = refl
     by_best (Some b) right = let no = none b.0 (within b right.at) in let yes : fault_at fault journal b.0 ≡ Some b.1 = right.at in absurd (cc)
@@ -144,8 +146,10 @@ least {A} fault journal earlier (e ∷ es) best is right all none = by_fault (fa
   where
     here : fault_at fault journal (length earlier) ≡ fault earlier e
     here = ap (λ j. fault_at fault j (length earlier)) is ∙ fault_at_here fault earlier es e
+
     long : length earlier < length journal
     long = let n = ap length is in let m = length-append earlier (e ∷ es) in omega arith
+
     by_best : (f : A) → fault earlier e ≡ Some f → (b : Option (ℕ × A)) → IsFault fault journal b → settled b (length earlier) (Some f) ≡ true → Some (length earlier, f) ≡ b
     by_best f was None right s = absurd (cc)
     by_best f was (Some b) right s = by_order (cases_order b.0 (length earlier))
@@ -157,6 +161,7 @@ least {A} fault journal earlier (e ∷ es) best is right all none = by_fault (fa
             ap₂ (λ n x. Some (n, x)) (sym same) (sym one)
         by_order (inr (inl less)) = let no = none b.0 less in let yes : fault_at fault journal b.0 ≡ Some b.1 = right.at in absurd (cc)
         by_order (inr (inr more)) = let h = leb-true b.0 (length earlier) s in absurd (omega arith)
+
     more : fault earlier e ≡ None → (k : ℕ) → k < length (earlier ++ e ∷ []) → fault_at fault journal k ≡ None
     more was k h = by_order (cases_order k (length earlier))
       where
@@ -164,6 +169,7 @@ least {A} fault journal earlier (e ∷ es) best is right all none = by_fault (fa
         by_order (inl same) = ap (fault_at fault journal) same ∙ here ∙ was
         by_order (inr (inl less)) = none k less
         by_order (inr (inr over)) = let n : length (earlier ++ e ∷ []) ≡ length earlier + 1 = length_push earlier e in absurd (omega arith)
+
     by_fault : (f : Option A) → fault earlier e ≡ f → (fault earlier e ≡ None → first_at fault (earlier ++ e ∷ []) es ≡ best) → option_or (option_map (λ x. (length earlier, x)) f) (first_at fault (earlier ++ e ∷ []) es) ≡ best
     by_fault (Some f) was rest = by_best f was best right (subst (λ o. settled best (length earlier) o ≡ true) (here ∙ was) (all (length earlier) long))
     by_fault None was rest = rest was

@@ -27,3 +27,4 @@ pub mod FirstFaultLemmas
 pub mod TallyLemmas
 pub mod JudgingLemmas
 pub mod AnsweringLemmas
+pub mod LegalityLemmas

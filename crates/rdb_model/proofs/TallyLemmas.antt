@@ -1,5 +1,5 @@
 -- What is kept of the entries so far, with one entry more.
-use Rattle.std.proofs.Common.{◌≡◌, ℕ, ◌+◌, ◌<◌, ◌≤◌, ◌⊎◌, Bool, true, false, cond, not, ◌&&◌, ◌||◌, ◌==◌, nat_eq, nat_le, nat_cmp, is_eq, List, [], ◌∷◌, ◌++◌, length, take, slice_get, get_or, set, Option, Some, None, refl, sym, ap, ap₂, ◌∙◌, subst, inl, inr, zero, suc, append_assoc, append-nil, length-append, arith, filter, BTreeSet, take_all, eqb-true, eq-eqb, ne_eqb, le-leb}
+use Rattle.std.proofs.Common.{◌≡◌, ℕ, ◌+◌, ◌<◌, ◌≤◌, ◌⊎◌, Bool, true, false, cond, not, ◌&&◌, ◌||◌, ◌==◌, nat_eq, nat_le, nat_cmp, is_eq, List, [], ◌∷◌, ◌++◌, length, take, slice_get, get_or, set, Some, None, refl, sym, ap, ap₂, ◌∙◌, subst, inl, inr, zero, suc, length-append, arith, filter, BTreeSet, take_all, eq-eqb, ne_eqb, le-leb}
 use Rattle.std.specs.Cmp.{tied_then, unsigned_tied}
 use Rattle.std.specs.BTreeSet.{contains}
 use Rattle.std.specs.List.{list_any}
@@ -43,9 +43,9 @@ counts_first counts is = subst (Counts []) (sym is) (record { many = refl; each 
 
 pub counts_push : (earlier : List Entry) (e : Entry) (counts : List ℕ) (count : ℕ) → Counts earlier counts → count ≡ commits (earlier ++ e ∷ []) → Counts (earlier ++ e ∷ []) (counts ++ count ∷ [])
 counts_push earlier e counts count have is = record {
-    many = let a = length_push counts count in let b = length_push earlier e in let c = have.many in omega arith;
-    each = by_place;
-  }
+  many = let a = length_push counts count in let b = length_push earlier e in let c = have.many in omega arith;
+  each = by_place;
+}
   where
     by_place : (n : ℕ) → n ≤ length (earlier ++ e ∷ []) → get_or (counts ++ count ∷ []) n 0 ≡ commits (take n (earlier ++ e ∷ []))
     by_place n h = by_order (cases_lt (length earlier) n)
@@ -208,9 +208,9 @@ readers_first readers is = subst (AreReaders []) (sym is) (record { many = refl;
 
 pub readers_other : (earlier : List Entry) (e : Entry) (readers : List (List ℕ)) → is_commit e ≡ false → ((n : ℕ) → n < length readers → reads_after n (commits earlier) e ≡ false) → AreReaders earlier readers → AreReaders (earlier ++ e ∷ []) readers
 readers_other earlier e readers is none have = record {
-    many = have.many ∙ ap (λ n. n + 1) (sym (commits_no earlier e is));
-    each = λ n place. have.each n place ∙ sym (sees_same earlier e n place (unread n));
-  }
+  many = have.many ∙ ap (λ n. n + 1) (sym (commits_no earlier e is));
+  each = λ n place. have.each n place ∙ sym (sees_same earlier e n place (unread n));
+}
   where
     unread : (n : ℕ) → reads_after n (commits earlier) e ≡ false
     unread n = by_order (cases_lt n (length readers))
@@ -225,15 +225,16 @@ readers_other earlier e readers is none have = record {
             and_none : (b : Bool) → (b && false) ≡ false
             and_none true = refl
             and_none false = refl
+
         by_order : (n < length readers) ⊎ (length readers ≤ n) → reads_after n (commits earlier) e ≡ false
         by_order (inl lt) = none n lt
         by_order (inr le) = let m = have.many in by_kind e (omega arith)
 
 pub readers_commit : (earlier : List Entry) (story : Story) (commit : ℕ) (readers : List (List ℕ)) → AreReaders earlier readers → AreReaders (earlier ++ entry.Commit story commit ∷ []) (readers ++ [] ∷ [])
 readers_commit earlier story commit readers have = record {
-    many = length_push readers [] ∙ ap (λ n. n + 1) (have.many ∙ sym (commits_yes earlier (entry.Commit story commit) refl));
-    each = λ n place. ap (list_any (nat_eq place)) (same n) ∙ have.each n place ∙ sym (sees_same earlier (entry.Commit story commit) n place refl);
-  }
+  many = length_push readers [] ∙ ap (λ n. n + 1) (have.many ∙ sym (commits_yes earlier (entry.Commit story commit) refl));
+  each = λ n place. ap (list_any (nat_eq place)) (same n) ∙ have.each n place ∙ sym (sees_same earlier (entry.Commit story commit) n place refl);
+}
   where
     same : (n : ℕ) → get_or (readers ++ [] ∷ []) n [] ≡ get_or readers n []
     same n = by_order (cases_order n (length readers))
@@ -245,9 +246,9 @@ readers_commit earlier story commit readers have = record {
 
 pub readers_read : (earlier : List Entry) (story : Story) (readers : List (List ℕ)) (place : ℕ) → AreReaders earlier readers → story.snapshot < length readers → place ≡ length earlier → AreReaders (earlier ++ entry.Read story ∷ []) (set readers story.snapshot (get_or readers story.snapshot [] ++ place ∷ []))
 readers_read earlier story readers place have within is = record {
-    many = length-set readers story.snapshot _ ∙ have.many ∙ ap (λ n. n + 1) (sym (commits_no earlier (entry.Read story) refl));
-    each = at;
-  }
+  many = length-set readers story.snapshot _ ∙ have.many ∙ ap (λ n. n + 1) (sym (commits_no earlier (entry.Read story) refl));
+  each = at;
+}
   where
     at : (n k : ℕ) → list_any (nat_eq k) (get_or (set readers story.snapshot (get_or readers story.snapshot [] ++ place ∷ [])) n []) ≡ sees (earlier ++ entry.Read story ∷ []) n k
     at n k = by_order (cases_order n story.snapshot)
@@ -257,6 +258,7 @@ readers_read earlier story readers place have within is = record {
             ap (list_any (nat_eq k)) (get_or-set_other readers story.snapshot n (get_or readers story.snapshot [] ++ place ∷ []) [] ne)
             ∙ have.each n k
             ∙ sym (sees_same earlier (entry.Read story) n k (ap (λ b. b && nat_le n (commits earlier)) (ne_eqb story.snapshot n (λ e. ne (sym e)))))
+
         by_order : (n ≡ story.snapshot) ⊎ ((n < story.snapshot) ⊎ (story.snapshot < n)) → list_any (nat_eq k) (get_or (set readers story.snapshot (get_or readers story.snapshot [] ++ place ∷ [])) n []) ≡ sees (earlier ++ entry.Read story ∷ []) n k
         by_order (inl same) =
             let m = have.many in
@@ -272,6 +274,7 @@ readers_read earlier story readers place have within is = record {
             by_test : (b : Bool) → (b || false) ≡ (b && true)
             by_test true = refl
             by_test false = refl
+
             read_here : length readers ≡ commits earlier + 1 → reads_after n (commits earlier) (entry.Read story) ≡ true
             read_here m = ap₂ (λ a b. a && b) (eq-eqb story.snapshot n (sym same)) (le-leb n (commits earlier) (omega arith))
         by_order (inr (inl less)) = other (λ e. omega arith)

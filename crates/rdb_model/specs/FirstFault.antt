@@ -1,5 +1,5 @@
 -- The first fault of a journal, by parts: the first entry that breaks number, twice or place, and the first wrong reply before it.
-use Rattle.std.specs.Prelude.{◌≡◌, ℕ, ◌+◌, ◌<◌, ◌^◌, List, [], ◌∷◌, ◌++◌, length, take, slice_get, Option, Some, None, if◌then◌else◌, nat_le}
+use Rattle.std.specs.Prelude.{ℕ, ◌+◌, ◌<◌, ◌^◌, List, [], ◌∷◌, ◌++◌, length, take, slice_get, Option, Some, None, if◌then◌else◌, nat_le}
 use Rattle.std.specs.Option.{option_map, option_map_or, option_or}
 use Rattle.rdb_base.specs.declared.identity.Kind.{Kind}
 use Rattle.rdb_base.specs.declared.identity.Kind.TheVariants as kind
@@ -13,7 +13,7 @@ use Rattle.rdb_model.specs.declared.legality.Why.{Why}
 use Rattle.rdb_model.specs.declared.legality.Why.TheVariants as why
 use Rattle.rdb_model.specs.Database.{Database}
 use Rattle.rdb_model.specs.Fits.{AllFit}
-use Rattle.rdb_model.specs.Journal.{breaks_number, breaks_twice, breaks_place, breaks_reply, wrong_reply}
+use Rattle.rdb_model.specs.Journal.{breaks_number, breaks_twice, breaks_place, wrong_reply}
 
 -- that a story's operations fit, and are fewer than numbers of 32 bits can tell apart
 pub record FitsStory (schema : Schema) (may : Kind) (story : Story) : Type 0 where

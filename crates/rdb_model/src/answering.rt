@@ -50,9 +50,7 @@ fn first_wrong(wrong: Option<u32>, same: bool, again: bool, number: u32) -> Opti
 {
     match wrong {
         Some(_) => wrong,
-        None => {
-            if same && !again { None } else { Some(number) }
-        }
+        None => { if same && !again { None } else { Some(number) } }
     }
 }
 
@@ -81,11 +79,7 @@ pub(crate) fn wrong_in_read(
 }
 
 // Whether an operation made an object that was made before; it is then among those made.
-fn makes_again(
-    made: &mut BTreeSet<(u32, u64)>,
-    op: &Op,
-    told: &Reply,
-) -> Result<bool, NoMemory>
+fn makes_again(made: &mut BTreeSet<(u32, u64)>, op: &Op, told: &Reply) -> Result<bool, NoMemory>
     ensures again { (objects : List (ℕ × ℕ)) → HasMade objects made.old → IfOk result (λ again. again ≡ option_map_or (was_made objects) (made_by (op.now, told.now)) false) }
     ensures made { (objects : List (ℕ × ℕ)) → HasMade objects made.old → OnOk result (HasMade (objects ++ made_in ((op.now, told.now) ∷ [])) made.new) }
 {

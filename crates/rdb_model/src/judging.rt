@@ -167,18 +167,18 @@ fn judge_entry(schema: &Schema, db: &mut Db, entry: &Entry) -> Result<Option<u32
 }
 
 // The earlier of the fault found so far and the one at a place, if there is one.
-fn earlier_of(
-    best: Option<(usize, u32)>,
-    place: usize,
-    wrong: Option<u32>,
-) -> Option<(usize, u32)>
+fn earlier_of(best: Option<(usize, u32)>, place: usize, wrong: Option<u32>) -> Option<(usize, u32)>
     ensures { result ≡ earlier_of best place wrong }
 {
     match (best, wrong) {
         (_, None) => best,
         (None, Some(operation)) => Some((place, operation)),
         (Some(found), Some(operation)) => {
-            if found.0 <= place { best } else { Some((place, operation)) }
+            if found.0 <= place {
+                best
+            } else {
+                Some((place, operation))
+            }
         }
     }
 }

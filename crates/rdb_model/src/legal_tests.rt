@@ -84,7 +84,12 @@ fn put(alloc: Global, done: &mut Done, id: u64, n: i128) -> Result<(), NoMemory>
 }
 
 // A commit of one object with a number and an id.
-fn made(alloc: Global, story: (u32, u64, u64, u64), commit: u64, objects: &[(i128, u64)]) -> Result<Entry, NoMemory> {
+fn made(
+    alloc: Global,
+    story: (u32, u64, u64, u64),
+    commit: u64,
+    objects: &[(i128, u64)],
+) -> Result<Entry, NoMemory> {
     let mut done = List::new(alloc);
     for (n, id) in objects {
         new(&mut done, number(alloc, *n)?, *id, Reply::Made(*id))?;
@@ -254,7 +259,10 @@ fn the_first_of_several_faults_is_named(rt: HostRuntime) -> Result<(), Fail> {
         at: 4,
         finished: false,
     })?;
-    assert_eq!(rt; judge(alloc, &schema, &journal)?, second(Why::Reply { operation: 1 }));
+    assert_eq!(rt;
+        judge(alloc, &schema, &journal)?,
+        second(Why::Reply { operation: 1 })
+    );
     Ok(())
 }
 
@@ -307,7 +315,10 @@ fn nothing_is_made_or_left_twice(rt: HostRuntime) -> Result<(), Fail> {
             why: Why::Reply { operation: 1 },
         }
     );
-    assert_eq!(rt; judge(alloc, &schema, &left_twice(alloc)?)?, second(Why::Twice));
+    assert_eq!(rt;
+        judge(alloc, &schema, &left_twice(alloc)?)?,
+        second(Why::Twice)
+    );
     Ok(())
 }
 
@@ -386,7 +397,10 @@ fn skew_and_phantoms_can_not_commit(rt: HostRuntime) -> Result<(), Fail> {
         (15, false, Legality::Legal),
     ];
     for (between, lost, expected) in cases {
-        assert_eq!(rt; judge(alloc, &ordered, &phantom(alloc, between, lost)?)?, expected);
+        assert_eq!(rt;
+            judge(alloc, &ordered, &phantom(alloc, between, lost)?)?,
+            expected
+        );
     }
     Ok(())
 }
@@ -397,7 +411,12 @@ fn an_own_duplicate_is_answered_in_a_legal_journal(rt: HostRuntime) -> Result<()
     let schema = schema(alloc, NUMBER, Some((IndexKind::Tree, true)))?;
     let mut done = List::new(alloc);
     new(&mut done, number(alloc, 5)?, 1, Reply::Made(1))?;
-    new(&mut done, number(alloc, 5)?, 0, Reply::Duplicate { index: 0, id: 1 })?;
+    new(
+        &mut done,
+        number(alloc, 5)?,
+        0,
+        Reply::Duplicate { index: 0, id: 1 },
+    )?;
     new(&mut done, number(alloc, 6)?, 2, Reply::Made(2))?;
     let mut journal = List::new(alloc);
     journal.push(Entry::Commit {

@@ -87,10 +87,7 @@ fn breaks_number(count: u64, entry: &Entry) -> bool
 }
 
 // Whether an entry ends a transaction that has ended; it then has.
-fn ends_again(
-    transactions: &mut BTreeSet<(u32, u64)>,
-    entry: &Entry,
-) -> Result<bool, NoMemory>
+fn ends_again(transactions: &mut BTreeSet<(u32, u64)>, entry: &Entry) -> Result<bool, NoMemory>
     ensures again { (earlier : List Entry) → HasEnded earlier transactions.old → IfOk result (λ again. again ≡ option_map_or (has_ended earlier) (ended entry.now) false) }
     ensures ended { (earlier : List Entry) → HasEnded earlier transactions.old → OnOk result (HasEnded (earlier ++ entry.now ∷ []) transactions.new) }
 {

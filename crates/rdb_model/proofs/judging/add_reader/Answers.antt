@@ -1,5 +1,5 @@
 -- The readers with one entry more, by its kind.
-use Rattle.std.proofs.Common.{◌≡◌, ◌+◌, ◌<◌, ◌≤◌, ◌◌<◌, ◌&&◌, nat_le&◌, nat_le, [], ◌∷◌, ◌++◌, length, get_or, set, refl, sym, ap, subst, arith, ne_eqb}
+use Rattle.std.proofs.Common.{◌≡◌, ◌<◌, ◌≤◌, ◌&&◌, nat_le, [], ◌∷◌, ◌++◌, length, get_or, set, refl, sym, ap, subst, arith, ne_eqb}
 use Rattle.std.proofs.lemmas.List.{get_or_read}
 use Rattle.rdb_base.specs.declared.journal.Entry.TheVariants as entry
 use Rattle.rdb_model.specs.Journal.{commits}

@@ -1,4 +1,4 @@
-use Rattle.std.proofs.Common.{◌≡◌, ◌≤◌, length}
+use Rattle.std.proofs.Common.{◌≡◌, length}
 use Rattle.rdb_model.proofs.JudgingLemmas.{Judged}
 use Rattle.rdb_model.proofs.judging.first_wrong.Given as goal
 

@@ -6,5 +6,5 @@ use Rattle.rdb_model.proofs.judging.judge_reads.Given as goal
 abbrev pub invariant-loop-place : goal.invariant-loop-place
 invariant-loop-place l = record {
   same : l.db ≡ l.fn.db;
-  left : earliest_read l.schema l.fn.db l.entries l.best (drop l.place-index l.place-items) ≡ earliest_read l.schema l.fn.db l.entries l.found l.places;
+  left : earliest_read l.schema l.fn.db l.entries l.best (drop l.place-index l.place-items) ≡ earliest_read l.schema l.fn.db l.entries l.fn.found l.places;
 }
