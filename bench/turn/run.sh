@@ -13,12 +13,14 @@ done
 cp "$top/HANDLES" "$work/"
 grep '^rdb_base\|^rdb_turn' "$top/crates.txt" > "$work/crates.txt"
 echo 'turn_bench: rdb_base rdb_turn' >> "$work/crates.txt"
+mkdir -p "$work/crates/turn_bench/proofs/main"
 cp "$here/main.rt.txt" "$work/crates/turn_bench/src/main.rt"
+cp "$here/invariants.antt.txt" "$work/crates/turn_bench/proofs/main/Invariants.antt"
 mutex() {
     cargo run --quiet --release --manifest-path "$here/mutex/Cargo.toml" --target-dir "$work/target"
 }
 mutex > "$work/mutex_before"
-(cd "$work/crates/turn_bench" && rt try) > "$work/turn"
+(cd "$work/crates/turn_bench" && rt run) > "$work/turn"
 mutex > "$work/mutex_after"
 awk '
     $1 == "mutex" { turns[$2] += $3 / 2; hands[$2] += $4 / 2 }

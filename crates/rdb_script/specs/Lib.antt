@@ -1,4 +1,5 @@
 pub mod Job
 pub mod JobScripts
 pub mod Schedule
+pub mod Spelling
 pub mod Stream

@@ -8,7 +8,7 @@ ghost use Rattle.std.specs.Str.Parse.{IsNumeral, digits_value};
 use std::str;
 
 /// The number that a word of decimal digits is, below 2^64. Leading zeros are allowed, a sign isn't.
-fn number(word: &str) -> Option<u64>
+pub fn number(word: &str) -> Option<u64>
     ensures { SomeIff result (IsNumeral 10 word.now × (digits_value 10 word.now < 2 ^ 64)) (digits_value 10 word.now) }
 {
     if word.starts_with('+') {
@@ -26,7 +26,7 @@ fn has_leading_zero(digits: &[u8]) -> bool
 }
 
 /// The bytes as a text, where they are UTF-8.
-fn text_of(bytes: &[u8]) -> Option<&str>
+pub fn text_of(bytes: &[u8]) -> Option<&str>
     ensures some { IfSome result (λ text. text.now ≡ bytes.now) }
     ensures none { IfNone result (¬ IsUtf8 bytes.now) }
 {

@@ -12,6 +12,7 @@ mod stream;
 #[cfg(test)]
 mod tests;
 mod transaction;
+pub mod values;
 
 pub use job::job_files;
 pub use schedule_reader::schedule;
