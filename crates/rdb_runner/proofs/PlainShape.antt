@@ -1,5 +1,5 @@
 -- What a plain schema is, written out.
-use Rattle.std.proofs.Common.{◌≡◌, ℕ, Bool, true, false, List, [], ◌∷◌, length, Option, refl, sym, ap, ◌∙◌, subst, arith, eqb}
+use Rattle.std.proofs.Common.{◌≡◌, ℕ, Bool, true, false, List, [], ◌∷◌, length, get_or, Option, refl, sym, ap, ◌∙◌, subst, arith, eqb}
 use Rattle.std.proofs.lemmas.Bool.Decides.{nat_tests}
 use Rattle.std.proofs.lemmas.Bool.{false≢true}
 use Rattle.rdb_schema.specs.declared.schema.Class.{Class}
@@ -60,3 +60,18 @@ plain_has_one schema p = ap (λ (s : Schema). length s.classes) p.same
 
 pub plain_has_no_structs : (schema : Schema) → IsPlain schema → schema.groups ≡ []
 plain_has_no_structs schema p = ap (λ (s : Schema). s.groups) p.same
+
+-- a list of one is its element
+pub list_of_one : {X : Type 0} → (xs : List X) (d : X) → length xs ≡ 1 → xs ≡ get_or xs 0 d ∷ []
+list_of_one [] d one = absurd (omega arith)
+list_of_one (x ∷ []) d one = refl
+list_of_one (x ∷ y ∷ xs) d one = absurd (omega arith)
+
+-- a list without elements
+pub empty_list : {X : Type 0} → (xs : List X) → eqb (length xs) 0 ≡ true → xs ≡ []
+empty_list [] none = refl
+empty_list (x ∷ xs) none = absurd (false≢true none)
+
+-- a class of this form has no indexes, so one with indexes is none; the same of events
+pub not_empty : {X : Type 0} → (xs : List X) → xs ≡ [] → eqb (length xs) 0 ≡ true
+not_empty xs none = ap (λ ys. eqb (length ys) 0) none

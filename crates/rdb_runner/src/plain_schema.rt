@@ -46,8 +46,14 @@ pub fn plain_class(schema: &Schema) -> Option<&str>
     ensures some { IfSome result (λ name. IsPlainWith schema.now name.now) }
     ensures none { IfNone result (¬ IsPlain schema.now) }
 {
-    match schema.classes.as_slice() {
-        [class] if schema.groups.is_empty() && is_plain_class(class) => Some(class.name.as_str()),
-        _ => None,
+    let [class] = schema.classes.as_slice() else {
+        return None;
+    };
+    if !schema.groups.is_empty() {
+        return None;
     }
+    if !is_plain_class(class) {
+        return None;
+    }
+    Some(class.name.as_str())
 }
