@@ -46,8 +46,8 @@ module _ (name : List ℕ) (sight : Sight) (ink : Ink) (result : ℕ) (whole : W
 
   pub whole_check_too_long : HasTooLong (name ∷ []) sight → result ≡ 3
   whole_check_too_long (place, n, there, at, is, long) = by_whole_check name sight ink result whole
-      (λ text r h w. let short = told_within sight.told (name ∷ []) _ place n there h.2.0 at is in absurd (omega arith)) (λ text r h w. r)
-      (λ text r h w. let short = told_within sight.told (name ∷ []) _ place n there h.3.0 at is in absurd (omega arith))
+      (λ text r h w. let short = told_within sight.told (name ∷ []) (h.0 ∷ []) place n there h.2.0 at is in absurd (omega arith)) (λ text r h w. r)
+      (λ text r h w. let short = told_within sight.told (name ∷ []) (h.0 ∷ h.1) place n there h.3.0 at is in absurd (omega arith))
 
   pub whole_check_refused : HasBadSchema (name ∷ []) sight → (result ≡ 3) ⊎ (result ≡ 4)
   whole_check_refused bad = by_whole_check name sight ink result whole

@@ -67,11 +67,10 @@ list_of_one [] d one = absurd (omega arith)
 list_of_one (x ∷ []) d one = refl
 list_of_one (x ∷ y ∷ xs) d one = absurd (omega arith)
 
+none_left : (n : ℕ) → eqb n 0 ≡ true → n ≡ 0
+none_left n h = grind (arith, nat_tests)
+
 -- a list without elements
 pub empty_list : {X : Type 0} → (xs : List X) → eqb (length xs) 0 ≡ true → xs ≡ []
 empty_list [] none = refl
-empty_list (x ∷ xs) none = absurd (false≢true none)
-
--- a class of this form has no indexes, so one with indexes is none; the same of events
-pub not_empty : {X : Type 0} → (xs : List X) → xs ≡ [] → eqb (length xs) 0 ≡ true
-not_empty xs none = ap (λ ys. eqb (length ys) 0) none
+empty_list (x ∷ xs) none = let no = none_left (length (x ∷ xs)) none in absurd (omega arith)
