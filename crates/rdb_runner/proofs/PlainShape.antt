@@ -30,16 +30,14 @@ pub plain_of : (schema : Schema) (class : Class) → schema.classes ≡ class �
 plain_of schema class one no_structs p =
     let field = one_field class.fields p.fields in
     let is : class ≡ record { name = class.name; fields = record { name = field.0; ty = types.Num 4 false } ∷ []; autoid = true; estimate = class.estimate; indexes = []; events = [] }
-    = λ i. record { name = class.name; fields = field.1 i; autoid = p.numbered i; estimate = class.estimate; indexes = p.no_indexes i; events = p.no_events i } in (
-      record {
-        database = schema.name;
-        class = class.name;
-        field = field.0;
-        estimate = class.estimate;
-        same = (λ i. record { name = schema.name; groups = no_structs i; classes = one i }) ∙ ap (λ (c : Class). record { name = schema.name; groups = []; classes = c ∷ [] }) is;
-      },
-      refl,
-    )
+        = λ i. record { name = class.name; fields = field.1 i; autoid = p.numbered i; estimate = class.estimate; indexes = p.no_indexes i; events = p.no_events i } in
+    (record {
+      database = schema.name;
+      class = class.name;
+      field = field.0;
+      estimate = class.estimate;
+      same = (λ i. record { name = schema.name; groups = no_structs i; classes = one i }) ∙ ap (λ (c : Class). record { name = schema.name; groups = []; classes = c ∷ [] }) is;
+    }, refl)
 
 first_or : Class → List Class → Class
 first_or d [] = d
