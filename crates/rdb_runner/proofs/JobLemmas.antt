@@ -2,6 +2,7 @@
 use Rattle.std.proofs.Common.{◌≡◌, ℕ, zero, suc, lit<, ◌<◌, ◌≤◌, ◌⊎◌, inl, inr, List, [], ◌∷◌, ◌++◌, length, Option, Some, None, refl, sym, ap, ◌∙◌, subst, arith}
 use Rattle.std.specs.Prelude.{Contains, IfSome, slice_get, codes, true}
 use Rattle.std.proofs.lemmas.Bool.{false≢true}
+use Rattle.std.proofs.lemmas.List.{length-map}
 use Rattle.rdb_schema.specs.declared.schema.Class.{Class}
 use Rattle.rdb_schema.specs.declared.schema.Schema.{Schema}
 use Rattle.rdb_ddl.specs.declared.fault.DdlFault.{DdlFault}
@@ -11,7 +12,7 @@ use Rattle.rdb_runner.specs.declared.plain_client.PlainStep.{PlainStep}
 use Rattle.rdb_runner.specs.declared.reading.TheConstants.{FILE_LIMIT}
 use Rattle.rdb_runner.specs.PlainClient.{IsClientOf}
 use Rattle.rdb_runner.specs.PlainSchedule.{is_plain_schedule}
-use Rattle.rdb_runner.specs.PlainSchema.{schema_of, IsPlain}
+use Rattle.rdb_runner.specs.PlainSchema.{schema_of, number_field, IsPlain}
 use Rattle.rdb_runner.specs.Promise.{names_of, DeclaresPlain, IsDone, IsNotBuilt, IsFirstOther, JobOwes, IsInterrupted, ArePlain}
 use Rattle.rdb_runner.specs.Reading.{Sight, AreBytesOf, IsBytesOf, AllRead, IsUnreadable, HasTooLong}
 use Rattle.rdb_runner.specs.SchemaFile.{fault_line, IsBadSchema, HasBadSchema}
@@ -52,32 +53,39 @@ first_name : List Class → List ℕ
 first_name [] = []
 first_name (c ∷ classes) = c.name
 
-one_class : (one other : Schema) → one ≡ other → (a : IsPlain one) (b : IsPlain other) → a.class ≡ b.class
-unfolding first_name
+first_width : List Class → ℕ
+first_width [] = 0
+first_width (c ∷ classes) = length c.fields
+
+one_class : (one other : Schema) → one ≡ other → (a : IsPlain one) (b : IsPlain other) → (a.class ≡ b.class) × (length a.fields ≡ length b.fields)
+unfolding first_name first_width
 one_class one other e a b =
-    let same : schema_of a.database a.class a.field a.estimate ≡ schema_of b.database b.class b.field b.estimate = sym a.same ∙ e ∙ b.same in
-    ap (λ (s : Schema). first_name s.classes) same
+    let same : schema_of a.database a.class a.fields a.estimate ≡ schema_of b.database b.class b.fields b.estimate = sym a.same ∙ e ∙ b.same in
+    (ap (λ (s : Schema). first_name s.classes) same, sym (length-map number_field a.fields) ∙ ap (λ (s : Schema). first_width s.classes) same ∙ length-map number_field b.fields)
 
 -- one text declares one class
-pub same_class : (text one other : List ℕ) → DeclaresPlain text one → DeclaresPlain text other → one ≡ other
-same_class text one other a b = sym a.2.1 ∙ one_class a.0 b.0 (one_schema text a.0 b.0 a.1 b.1) a.2.0 b.2.0 ∙ b.2.1
+pub same_class : (text one other : List ℕ) (width breadth : ℕ) → DeclaresPlain text one width → DeclaresPlain text other breadth → (one ≡ other) × (width ≡ breadth)
+same_class text one other width breadth a b =
+    let both = one_class a.0 b.0 (one_schema text a.0 b.0 a.1 b.1) a.2.0 b.2.0 in
+    (sym a.2.1 ∙ both.0 ∙ b.2.1, sym a.2.2 ∙ both.1 ∙ b.2.2)
 
 bytes_told : (told : List ℕ → Option (List ℕ)) (name text there : List ℕ) → IsBytesOf told name text → told name ≡ Some there → text ≡ there
 bytes_told told name text there h is = subst (λ (o : Option (List ℕ)). IfSome o (λ x. text ≡ x)) is h.0
 
-first_is_plain : (schema schedule client : List ℕ) (place : ℕ) (name : List ℕ) (steps : List PlainStep) → DeclaresPlain schema name → is_plain_schedule schedule ≡ true → IsClientOf name client steps → IsFirstOther schema schedule client place → ⊥
-first_is_plain schema schedule client place name steps is ok has (inl bad) =
+first_is_plain : (schema schedule client : List ℕ) (place : ℕ) (name : List ℕ) (width : ℕ) (steps : List PlainStep) → DeclaresPlain schema name width → is_plain_schedule schedule ≡ true → IsClientOf name width client steps → IsFirstOther schema schedule client place → ⊥
+first_is_plain schema schedule client place name width steps is ok has (inl bad) =
     let other = bad.1 in
     other.2 (subst IsPlain (one_schema schema is.0 other.0 is.1 other.1) is.2.0)
-first_is_plain schema schedule client place name steps is ok has (inr (inl bad)) = false≢true (sym bad.3 ∙ ok)
-first_is_plain schema schedule client place name steps is ok has (inr (inr bad)) =
-    bad.4 steps (subst (λ (k : List ℕ). IsClientOf k client steps) (same_class schema name bad.1 is bad.2) has)
+first_is_plain schema schedule client place name width steps is ok has (inr (inl bad)) = false≢true (sym bad.4 ∙ ok)
+first_is_plain schema schedule client place name width steps is ok has (inr (inr bad)) =
+    let same = same_class schema name bad.1 width bad.2 is bad.3 in
+    bad.5 steps (subst (λ (k : List ℕ). IsClientOf k bad.2 client steps) same.0 (subst (λ (w : ℕ). IsClientOf name w client steps) same.1 has))
 
 -- a schema before a text that isn't of the simplest form is read
 pub other_is_read : (schema schedule client : List ℕ) (place : ℕ) → IsFirstOther schema schedule client place → (s : Schema) × IsRead schema s
 other_is_read schema schedule client place (inl bad) = (bad.1.0, bad.1.1)
-other_is_read schema schedule client place (inr (inl bad)) = (bad.2.0, bad.2.1)
-other_is_read schema schedule client place (inr (inr bad)) = (bad.2.0, bad.2.1)
+other_is_read schema schedule client place (inr (inl bad)) = (bad.3.0, bad.3.1)
+other_is_read schema schedule client place (inr (inr bad)) = (bad.3.0, bad.3.1)
 
 -- files of the simplest form are not refused
 pub plain_built : (names : List (List ℕ)) (sight : Sight) (text : List ℕ) → ArePlain names sight → IsNotBuilt names sight text → ⊥
@@ -86,10 +94,10 @@ plain_built names sight text p (schema, schedule, client, place, name, read, fir
     let one = bytes_told sight.told p.schema_name schema p.schema_text all.0 p.schema_told in
     let two = bytes_told sight.told p.schedule_name schedule p.schedule_text all.1.0 p.schedule_told in
     let three = bytes_told sight.told p.client_name client p.client_text all.1.1.0 p.client_told in
-    first_is_plain schema schedule client place p.class p.steps
-    (subst (λ (t : List ℕ). DeclaresPlain t p.class) (sym one) p.schema_plain)
+    first_is_plain schema schedule client place p.class p.width p.steps
+    (subst (λ (t : List ℕ). DeclaresPlain t p.class p.width) (sym one) p.schema_plain)
     (ap is_plain_schedule two ∙ p.schedule_plain)
-    (subst (λ (t : List ℕ). IsClientOf p.class t p.steps) (sym three) p.client_plain)
+    (subst (λ (t : List ℕ). IsClientOf p.class p.width t p.steps) (sym three) p.client_plain)
     first
 
 -- a job that is done, or of which a file isn't of the simplest form, has a schema that is read

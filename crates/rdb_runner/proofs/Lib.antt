@@ -3,6 +3,7 @@ pub mod CheckLemmas
 pub mod CommandLemmas
 pub mod DecimalLemmas
 pub mod JobLemmas
+pub mod NumbersLemmas
 pub mod PlainClientLemmas
 pub mod PlainFits
 pub mod PlainRunLemmas

@@ -20,46 +20,66 @@ use Rattle.rdb_runner.specs.PlainSchema.{schema_of, IsPlain}
 in_range : (n : ℕ) → n < 2 ^ 32 → (int_le (pos 0) (pos n) && int_le (pos n) (pos 4294967295)) ≡ true
 in_range n h = grind (arith, nat_tests)
 
-both : (b : Bool) → b ≡ true → ((b && true) && true) ≡ true
-both true e = refl
-both false e = e
+uint4 : Schema → ℕ → Bool
+uint4 schema n = holds schema (types.Num 4 false) (value.Leaf (leaf.Num (pos n)))
 
-fits_plain : (d c f : List ℕ) (est : Option ℕ) (made : ℕ) (step : PlainStep) → IsStep step → Fits (schema_of d c f est) (operation_of made step) kind.ReadWrite
-fits_plain d c f est made (New n) is = both _ (in_range n is)
-fits_plain d c f est made (Get id) is = refl
+both : (a b : Bool) → a ≡ true → b ≡ true → (a && b) ≡ true
+both true b ea eb = eb
+both false b ea eb = ea
+
+-- numbers are a row of as many fields
+row_fits : (schema : Schema) (fields : List (List ℕ)) (numbers : List ℕ) → length numbers ≡ length fields → AllByRecursion (λ n. n < 2 ^ 32) numbers → values_hold schema (map number_field fields) (row_of numbers) ≡ true
+row_fits schema [] [] even each = refl
+row_fits schema [] (n ∷ numbers) even each = absurd (omega arith)
+row_fits schema (f ∷ fields) [] even each = absurd (omega arith)
+row_fits schema (f ∷ fields) (n ∷ numbers) even each = both _ _ (in_range n each.0) (row_fits schema fields numbers (omega arith) each.1)
+
+-- four bytes each
+row_long : (schema : Schema) (fields : List (List ℕ)) (numbers : List ℕ) → values_length schema (map number_field fields) (row_of numbers) ≤ 4 * length fields
+row_long schema [] numbers = omega arith
+row_long schema (f ∷ fields) [] = omega arith
+row_long schema (f ∷ fields) (n ∷ numbers) = omega (arith, row_long schema fields numbers)
+
+short : (n : ℕ) → n ≤ 4000 → nat_le n 4000 ≡ true
+short n h = grind (arith, nat_tests)
+
+fits_plain : (d c : List ℕ) (f : List (List ℕ)) (est : Option ℕ) (made : ℕ) (step : PlainStep) → length f ≤ 32 → IsStep (length f) step → Fits (schema_of d c f est) (operation_of made step) kind.ReadWrite
+fits_plain d c f est made (New numbers) few is =
+    both _ _ (row_fits (schema_of d c f est) f numbers is.count is.each) (short _ (omega (arith, row_long (schema_of d c f est) f numbers)))
+fits_plain d c f est made (Get id) few is = refl
 
 -- each step's operation fits
-pub step_fits : (schema : Schema) → IsPlain schema → (made : ℕ) (step : PlainStep) → IsStep step → Fits schema (operation_of made step) kind.ReadWrite
-step_fits schema p made step is = subst (λ (s : Schema). Fits s (operation_of made step) kind.ReadWrite) (sym p.same) (fits_plain p.database p.class p.field p.estimate made step is)
+pub step_fits : (schema : Schema) (p : IsPlain schema) (made : ℕ) (step : PlainStep) → IsStep (length p.fields) step → Fits schema (operation_of made step) kind.ReadWrite
+step_fits schema p made step is = subst (λ (s : Schema). Fits s (operation_of made step) kind.ReadWrite) (sym p.same) (fits_plain p.database p.class p.fields p.estimate made step p.few is)
 
-few_plain : (d c f : List ℕ) (est : Option ℕ) (class : ℕ) → length (indexes_of (schema_of d c f est) class) ≤ 8
+few_plain : (d c : List ℕ) (f : List (List ℕ)) (est : Option ℕ) (class : ℕ) → length (indexes_of (schema_of d c f est) class) ≤ 8
 few_plain d c f est zero = lit≤ tt
 few_plain d c f est (suc class) = lit≤ tt
 
 -- there are no indexes
 pub has_few : (schema : Schema) → IsPlain schema → HasFewIndexes schema
-has_few schema p = subst HasFewIndexes (sym p.same) (few_plain p.database p.class p.field p.estimate)
+has_few schema p = subst HasFewIndexes (sym p.same) (few_plain p.database p.class p.fields p.estimate)
 
 -- there is one class
 pub one_class : (schema : Schema) → IsPlain schema → length schema.classes ≡ 1
 one_class schema p = ap (λ (s : Schema). length s.classes) p.same
 
-length_plain : (d c f : List ℕ) (est : Option ℕ) (db : Database) (made : ℕ) (step : PlainStep) → length (answer (schema_of d c f est) db (operation_of made step)).1 ≡ length db
+length_plain : (d c : List ℕ) (f : List (List ℕ)) (est : Option ℕ) (db : Database) (made : ℕ) (step : PlainStep) → length (answer (schema_of d c f est) db (operation_of made step)).1 ≡ length db
 length_plain d c f est db made (New n) = length-set db 0 _
 length_plain d c f est db made (Get id) = refl
 
 -- an answer leaves as many classes as there were
 pub length_after : (schema : Schema) → IsPlain schema → (db : Database) (made : ℕ) (step : PlainStep) → length (answer schema db (operation_of made step)).1 ≡ length db
-length_after schema p db made step = subst (λ (s : Schema). length (answer s db (operation_of made step)).1 ≡ length db) (sym p.same) (length_plain p.database p.class p.field p.estimate db made step)
+length_after schema p db made step = subst (λ (s : Schema). length (answer s db (operation_of made step)).1 ≡ length db) (sym p.same) (length_plain p.database p.class p.fields p.estimate db made step)
 
-found_named : (d c f : List ℕ) (est : Option ℕ) (id : ℕ) (found : Option Row) → StepNamesExist (schema_of d c f est) (operation_of 0 (Get id), option_map_or reply.Row found reply.NotFound)
+found_named : (d c : List ℕ) (f : List (List ℕ)) (est : Option ℕ) (id : ℕ) (found : Option Row) → StepNamesExist (schema_of d c f est) (operation_of 0 (Get id), option_map_or reply.Row found reply.NotFound)
 found_named d c f est id None = (lit< tt, tt)
 found_named d c f est id (Some row) = (lit< tt, tt)
 
-named_plain : (d c f : List ℕ) (est : Option ℕ) (db : Database) (made : ℕ) (step : PlainStep) → StepNamesExist (schema_of d c f est) (operation_of made step, (answer (schema_of d c f est) db (operation_of made step)).0)
+named_plain : (d c : List ℕ) (f : List (List ℕ)) (est : Option ℕ) (db : Database) (made : ℕ) (step : PlainStep) → StepNamesExist (schema_of d c f est) (operation_of made step, (answer (schema_of d c f est) db (operation_of made step)).0)
 named_plain d c f est db made (New n) = (lit< tt, tt)
 named_plain d c f est db made (Get id) = found_named d c f est id (row_of (objects_of db 0) id)
 
 -- an operation and its answer name the one class alone
 pub step_named : (schema : Schema) → IsPlain schema → (db : Database) (made : ℕ) (step : PlainStep) → StepNamesExist schema (operation_of made step, (answer schema db (operation_of made step)).0)
-step_named schema p db made step = subst (λ (s : Schema). StepNamesExist s (operation_of made step, (answer s db (operation_of made step)).0)) (sym p.same) (named_plain p.database p.class p.field p.estimate db made step)
+step_named schema p db made step = subst (λ (s : Schema). StepNamesExist s (operation_of made step, (answer s db (operation_of made step)).0)) (sym p.same) (named_plain p.database p.class p.fields p.estimate db made step)

@@ -112,7 +112,7 @@ same_number : (a b : ℕ) → eqb a b ≡ true → b ≡ a
 same_number a b h = grind (arith, nat_tests)
 
 -- each operation of the steps is answered by the plain database, and makes a new object
-pub none_wrong : (d c f : List ℕ) (est : Option ℕ) (steps : List PlainStep) (next first : ℕ) (db mid : Database) (done : List (Op × Reply)) (made : List (ℕ × ℕ)) → map (λ (x : Op × Reply). x.0) done ≡ numbered next steps → run (schema_of d c f est) db done ≡ Some mid → AllBelow made next → wrong_reply (schema_of d c f est) db made first done ≡ None
+pub none_wrong : (d c : List ℕ) (f : List (List ℕ)) (est : Option ℕ) (steps : List PlainStep) (next first : ℕ) (db mid : Database) (done : List (Op × Reply)) (made : List (ℕ × ℕ)) → map (λ (x : Op × Reply). x.0) done ≡ numbered next steps → run (schema_of d c f est) db done ≡ Some mid → AllBelow made next → wrong_reply (schema_of d c f est) db made first done ≡ None
 none_wrong d c f est [] next first db mid [] made e r h = refl
 none_wrong d c f est [] next first db mid (x ∷ done) made e r h = cc
 none_wrong d c f est (New number ∷ steps) next first db mid [] made e r h = cc
@@ -154,7 +154,7 @@ some_of None h = let no : false ≡ true = h in absurd (false≢true no)
 some_of (Some mid) h = (mid, refl)
 
 -- the journal of such a client is legal
-pub journal_is_legal : (d c f : List ℕ) (est : Option ℕ) (steps : List PlainStep) (done : List (Op × Reply)) → AreAnswered (schema_of d c f est) steps done → IsLegal (schema_of d c f est) (journal_of done)
+pub journal_is_legal : (d c : List ℕ) (f : List (List ℕ)) (est : Option ℕ) (steps : List PlainStep) (done : List (Op × Reply)) → AreAnswered (schema_of d c f est) steps done → IsLegal (schema_of d c f est) (journal_of done)
 journal_is_legal d c f est steps done a =
     let ran = some_of (run (schema_of d c f est) (empty 1) done) a.runs in
     ap (λ (w : Option ℕ). option_map_or (legality.Illegal 1) (option_map why.Reply w) legality.Legal) (none_wrong d c f est steps 1 1 (empty 1) ran.0 done [] a.operations ran.1 tt)

@@ -42,9 +42,10 @@ pub record IsPrinted (schema : Schema) (steps : List PlainStep) (text : List ℕ
 pub record IsReportOf (schema_text schedule_text client_text text : List ℕ) : Type 0 where
   pub schema : Schema
   pub class : List ℕ
+  pub width : ℕ
   pub steps : List PlainStep
   pub schema_read : IsRead schema_text schema
-  pub schema_plain : IsPlainWith schema class
+  pub schema_plain : IsPlainWith schema class width
   pub schedule_read : is_plain_schedule schedule_text ≡ true
-  pub client_read : IsClientOf class client_text steps
+  pub client_read : IsClientOf class width client_text steps
   pub printed : IsPrinted schema steps text

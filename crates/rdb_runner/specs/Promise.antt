@@ -30,16 +30,16 @@ IsDone names sight text =
 abbrev pub IsOtherSchema : List ℕ → Type 0
 IsOtherSchema text = (schema : Schema) × IsRead text schema × (IsPlain schema → ⊥)
 
--- the text declares a schema of the simplest form, with a class of this name
-abbrev pub DeclaresPlain : List ℕ → List ℕ → Type 0
-DeclaresPlain text name = (schema : Schema) × IsRead text schema × IsPlainWith schema name
+-- the text declares a schema of the simplest form, with a class of this name and so many fields
+abbrev pub DeclaresPlain : List ℕ → List ℕ → ℕ → Type 0
+DeclaresPlain text name width = (schema : Schema) × IsRead text schema × IsPlainWith schema name width
 
 -- the first of the texts, by its place, that isn't of the simplest form
 abbrev pub IsFirstOther : List ℕ → List ℕ → List ℕ → ℕ → Type 0
 IsFirstOther schema schedule client place =
     ((place ≡ 0) × IsOtherSchema schema)
-    ⊎ (((place ≡ 1) × (name : List ℕ) × DeclaresPlain schema name × (is_plain_schedule schedule ≡ false))
-    ⊎ ((place ≡ 2) × (name : List ℕ) × DeclaresPlain schema name × (is_plain_schedule schedule ≡ true) × ((steps : List PlainStep) → IsClientOf name client steps → ⊥)))
+    ⊎ (((place ≡ 1) × (name : List ℕ) × (width : ℕ) × DeclaresPlain schema name width × (is_plain_schedule schedule ≡ false))
+    ⊎ ((place ≡ 2) × (name : List ℕ) × (width : ℕ) × DeclaresPlain schema name width × (is_plain_schedule schedule ≡ true) × ((steps : List PlainStep) → IsClientOf name width client steps → ⊥)))
 
 -- what the work on three texts gives: the report's lines, the schema's first fault, or the first text that isn't of the simplest form
 abbrev pub IsWork : List ℕ → List ℕ → List ℕ → Result (List (List ℕ)) NoReport → Type 0
@@ -74,10 +74,11 @@ pub record ArePlain (names : List (List ℕ)) (sight : Sight) : Type 0 where
   pub schedule_told : sight.told schedule_name ≡ Some schedule_text
   pub client_told : sight.told client_name ≡ Some client_text
   pub class : List ℕ
+  pub width : ℕ
   pub steps : List PlainStep
-  pub schema_plain : DeclaresPlain schema_text class
+  pub schema_plain : DeclaresPlain schema_text class width
   pub schedule_plain : is_plain_schedule schedule_text ≡ true
-  pub client_plain : IsClientOf class client_text steps
+  pub client_plain : IsClientOf class width client_text steps
 
 -- what a job's work gives: the report's lines, the first file that can't be read, the schema's first fault, or the first
 -- file that isn't of the simplest form

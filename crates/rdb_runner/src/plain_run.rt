@@ -3,42 +3,48 @@
 ghost use Rattle.std.specs.Prelude.{◌≡◌, ◌+◌, ◌<◌, ◌≤◌, ◌^◌, [], ◌∷◌, length, IfOk, All};
 ghost use Rattle.std.specs.List.{AllByRecursion};
 ghost use Rattle.rdb_journal.specs.Lines.{StepNamesExist, NamesExist};
-ghost use Rattle.rdb_runner.specs.PlainClient.{IsStep, operation_of, made_by};
+ghost use Rattle.rdb_runner.specs.PlainClient.{row_of, AreStepsOver, operation_of, made_by};
 ghost use Rattle.rdb_runner.specs.PlainReport.{AreAnswered, IsJournalOf};
-ghost use Rattle.rdb_runner.specs.PlainSchema.{IsPlain};
 
 use crate::plain_client::PlainStep;
 use rdb_base::journal::{Done, Entry, Journal, Story};
 use rdb_base::list::{List, NoMemory};
 use rdb_base::operation::Op;
 use rdb_base::order::order_is_total;
-use rdb_base::value::{Leaf, Value};
+use rdb_base::value::{Leaf, Row, Value};
 use rdb_model::db::Db;
 use rdb_schema::schema::Schema;
 use std::alloc::Global;
 
+/// The row of these numbers.
+fn row_of(alloc: Global, numbers: &List<u32>) -> Result<Row, NoMemory>
+    ensures { IfOk result (λ row. row ≡ row_of numbers.now) }
+{
+    let mut row = List::new(alloc);
+    for number in numbers.as_slice() {
+        row.push(Value::Leaf(Leaf::Num(i128::from(*number))))?;
+    }
+    Ok(row)
+}
+
 /// The operation that a step is. A row that is made has the id `made`.
-fn operation(alloc: Global, step: PlainStep, made: u64) -> Result<Op, NoMemory>
-    ensures { IfOk result (λ op. op ≡ operation_of made step) }
+fn operation(alloc: Global, step: &PlainStep, made: u64) -> Result<Op, NoMemory>
+    ensures { IfOk result (λ op. op ≡ operation_of made step.now) }
 {
     match step {
-        PlainStep::New(number) => {
-            let mut row = List::new(alloc);
-            row.push(Value::Leaf(Leaf::Num(i128::from(number))))?;
-            Ok(Op::New {
-                class: 0,
-                row,
-                id: made,
-            })
-        }
-        PlainStep::Get(id) => Ok(Op::Get { class: 0, id }),
+        PlainStep::New(numbers) => Ok(Op::New {
+            class: 0,
+            row: row_of(alloc, numbers)?,
+            id: made,
+        }),
+        PlainStep::Get(id) => Ok(Op::Get { class: 0, id: *id }),
     }
 }
 
 /// The id that the next row is made with, after a step that may make one with this id.
-fn next_id(step: PlainStep, id: u64) -> u64
+fn next_id(step: &PlainStep, id: u64) -> u64
     requires { id + 1 < 2 ^ 64 }
-    ensures { result ≡ id + made_by (step ∷ []) }
+    ensures { result ≡ id + made_by (step.now ∷ []) }
 {
     match step {
         PlainStep::New(_) => id + 1,
@@ -49,9 +55,8 @@ fn next_id(step: PlainStep, id: u64) -> u64
 /// The steps in order with the answers of a database that was empty. The cost grows with the steps, and each that
 /// makes a row copies it once.
 fn answered(alloc: Global, schema: &Schema, steps: &List<PlainStep>) -> Result<Done, NoMemory>
-    requires plain { IsPlain schema.now }
     requires few { length steps.now ≤ 1000 }
-    requires each { AllByRecursion IsStep steps.now }
+    requires steps { AreStepsOver schema.now steps.now }
     ensures answered { IfOk result (λ done. AreAnswered schema.now steps.now done) }
     ensures named { IfOk result (λ done. AllByRecursion (StepNamesExist schema.now) done) }
 {
@@ -60,10 +65,10 @@ fn answered(alloc: Global, schema: &Schema, steps: &List<PlainStep>) -> Result<D
     let mut done = List::new(alloc);
     let mut next = 1;
     for step in steps.as_slice() {
-        let op = operation(alloc, *step, next)?;
+        let op = operation(alloc, step, next)?;
         let reply = db.apply(schema, &op)?;
         done.push((op, reply))?;
-        next = next_id(*step, next);
+        next = next_id(step, next);
     }
     Ok(done)
 }
@@ -74,9 +79,8 @@ pub fn plain_journal(
     schema: &Schema,
     steps: &List<PlainStep>,
 ) -> Result<Journal, NoMemory>
-    requires plain { IsPlain schema.now }
     requires few { length steps.now ≤ 1000 }
-    requires each { AllByRecursion IsStep steps.now }
+    requires steps { AreStepsOver schema.now steps.now }
     ensures made { IfOk result (λ journal. IsJournalOf schema.now steps.now journal) }
     ensures named { IfOk result (λ journal. All (NamesExist schema.now) journal) }
 {

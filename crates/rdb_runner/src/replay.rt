@@ -3,10 +3,9 @@
 
 ghost use Rattle.std.specs.Prelude.{◌≡◌, ◌≢◌, ◌≤◌, ◌<◌, ℕ, List, [], ◌∷◌, length, Contains, IfOk, Some, slice_get};
 ghost use Rattle.std.specs.List.{concat, AllByRecursion};
-ghost use Rattle.rdb_runner.specs.PlainClient.{IsStep};
+ghost use Rattle.rdb_runner.specs.PlainClient.{AreStepsOver};
 ghost use Rattle.rdb_runner.specs.PlainReport.{IsPrinted};
 ghost use Rattle.rdb_ddl.specs.Read.{IsRead};
-ghost use Rattle.rdb_runner.specs.PlainSchema.{IsPlain};
 ghost use Rattle.rdb_runner.specs.SchemaFile.{IsBadSchema, HasBadSchema};
 ghost use Rattle.rdb_runner.specs.Job.{files_of};
 ghost use Rattle.rdb_runner.specs.Promise.{IsWork, IsJobWork, JobEnds, names_of, IsDone, IsNotBuilt, IsInterrupted, ArePlain};
@@ -74,9 +73,8 @@ impl From<AllocError> for NoReport {
 
 /// The lines of the report of a schema and a client, once their texts are read.
 fn lines_of(alloc: Global, schema: &Schema, steps: &List<PlainStep>) -> Result<Lines, NoMemory>
-    requires plain { IsPlain schema.now }
     requires few { length steps.now ≤ 1000 }
-    requires each { AllByRecursion IsStep steps.now }
+    requires steps { AreStepsOver schema.now steps.now }
     ensures { IfOk result (λ lines. IsPrinted schema.now steps.now (concat lines)) }
 {
     let journal = plain_journal(alloc, schema, steps)?;
@@ -103,7 +101,7 @@ fn report_over(
     if !is_plain_schedule(schedule) {
         return Err(NoReport::Other(1));
     }
-    let Some(steps) = read_plain_client(alloc, class.as_bytes(), client)? else {
+    let Some(steps) = read_plain_client(alloc, class.name.as_bytes(), class.width, client)? else {
         return Err(NoReport::Other(2));
     };
     Ok(lines_of(alloc, schema, &steps)?)
