@@ -61,9 +61,7 @@ fn end<F: Files, K: Sink>(alloc: Global, schema: &str, files: &mut F, out: &mut 
 {
     match work(alloc, files, schema) {
         Ok(text) => tell(out, 0, text.as_str().as_bytes()),
-        Err(Unchecked::Unreadable) => {
-            tell_name(alloc, out, 3, "regiondb: cannot read ", schema)
-        }
+        Err(Unchecked::Unreadable) => { tell_name(alloc, out, 3, "regiondb: cannot read ", schema) }
         Err(Unchecked::Refused(fault)) => tell_fault(alloc, out, &fault),
         Err(Unchecked::NoMemory) => NO_MEMORY,
     }

@@ -220,7 +220,8 @@ fn checked(alloc: Global, schema: &[u8], out: &mut MemorySink) -> Result<u8, NoM
 fn a_schema_is_checked(rt: HostRuntime) -> Result<(), Fail> {
     let alloc = rt.alloc();
     let schema = b"declare database shop;class Item{uint4 n;autoid[10];unique tree<n>byN;}";
-    let canonical = b"declare database shop;\n\nclass Item {\n  uint4 n;\n  autoid[10];\n  unique tree<n> byN;\n};\n";
+    let canonical =
+        b"declare database shop;\n\nclass Item {\n  uint4 n;\n  autoid[10];\n  unique tree<n> byN;\n};\n";
     let mut out = MemorySink::new(alloc, List::new(alloc), List::new(alloc));
     assert_eq!(rt; checked(alloc, schema, &mut out)?, 0);
     assert!(rt; out.bytes() == canonical.as_slice());
@@ -231,11 +232,26 @@ fn a_schema_is_checked(rt: HostRuntime) -> Result<(), Fail> {
 fn each_refused_schema_is_told(rt: HostRuntime) -> Result<(), Fail> {
     let alloc = rt.alloc();
     let table: [(&[u8], &[u8]); 6] = [
-        (b"declare database d;\r\nclass\r\n{", b"regiondb: schema 3:1 unexpected\n"),
-        (b"declare database d; // \xFF", b"regiondb: schema 1:24 unexpected\n"),
-        (b"declare database d;\r\nclass C { S s; };", b"regiondb: schema 2:11 unknown\n"),
-        (b"declare database d; class C { int1 a; int1 a; };", b"regiondb: schema 1:44 twice\n"),
-        (b"declare database d;\nclass C { autoid; };", b"regiondb: schema 2:7 badkey\n"),
+        (
+            b"declare database d;\r\nclass\r\n{",
+            b"regiondb: schema 3:1 unexpected\n",
+        ),
+        (
+            b"declare database d; // \xFF",
+            b"regiondb: schema 1:24 unexpected\n",
+        ),
+        (
+            b"declare database d;\r\nclass C { S s; };",
+            b"regiondb: schema 2:11 unknown\n",
+        ),
+        (
+            b"declare database d; class C { int1 a; int1 a; };",
+            b"regiondb: schema 1:44 twice\n",
+        ),
+        (
+            b"declare database d;\nclass C { autoid; };",
+            b"regiondb: schema 2:7 badkey\n",
+        ),
         (
             b"declare database d; class C { int1 a; int1 b; int1 c; int1 e; int1 f; tree<a,b,c,e,f> t; }",
             b"regiondb: schema 1:84 toomany\n",
@@ -254,7 +270,11 @@ fn a_schema_cut_to_each_length_is_checked(rt: HostRuntime) -> Result<(), Fail> {
     let alloc = rt.alloc();
     for len in 0..SCHEMA.len() + 1 {
         let mut out = MemorySink::new(alloc, List::new(alloc), List::new(alloc));
-        let want = if len == 22 || len == 23 || len >= 54 { 0 } else { 4 };
+        let want = if len == 22 || len == 23 || len >= 54 {
+            0
+        } else {
+            4
+        };
         assert_eq!(rt; checked(alloc, &SCHEMA[..len], &mut out)?, want);
     }
     Ok(())
