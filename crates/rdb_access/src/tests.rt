@@ -5,9 +5,9 @@ use crate::encode::EncodeFault;
 use rdb_base::files::Bytes;
 use rdb_base::list::{List, NoMemory};
 use rdb_base::text::Text;
-use rdb_base::value::{Element, Leaf, Row, Value};
+use rdb_base::value::{Element, Leaf, Rect, Row, Value};
 use rdb_schema::schema::{Class, Field, FieldType, Group, Plain, Schema};
-use rdb_schema::values::row_holds;
+use rdb_schema::values::{holds, row_holds};
 use std::alloc::Global;
 use std::test::Fail;
 
@@ -54,6 +54,35 @@ fn encoded(alloc: Global, schema: &Schema, row: &Row) -> Result<Bytes, EncodeFau
     } else {
         Err(EncodeFault::NoMemory)
     }
+}
+
+/// The row of the first class that bytes encode.
+fn decoded(alloc: Global, schema: &Schema, bytes: &[u8]) -> Result<Row, NoMemory> {
+    Accessors::of(alloc, schema, 0)?.decode(bytes)
+}
+
+/// Writes a number over that in a field of the first class; nothing where it isn't one of the field's type.
+#[tactic(auto, using(crate::proofs::Lengths::number_fits_of))]
+fn set(
+    alloc: Global,
+    schema: &Schema,
+    bytes: &mut [u8],
+    field: u32,
+    number: i128,
+) -> Result<(), NoMemory> {
+    let accessors = Accessors::of(alloc, schema, 0)?;
+    if schema.classes.len() < 1 {
+        return Ok(());
+    }
+    let class = schema.classes.at(0);
+    if class.fields.len() <= field as usize {
+        return Ok(());
+    }
+    let declared = class.fields.at(field as usize);
+    if holds(schema, &declared.ty, &Value::Leaf(Leaf::Num(number))) {
+        accessors.set_number(bytes, field, number);
+    }
+    Ok(())
 }
 
 fn repeated(alloc: Global, count: usize) -> Result<Value, NoMemory> {
@@ -128,6 +157,7 @@ fn a_row_is_its_fields_one_after_another(rt: HostRuntime) -> Result<(), Fail> {
         accessors.items(bytes.as_slice(), 1),
         [2, 1, 0, 0xff, 0xff].as_slice()
     );
+    assert_eq!(rt; decoded(rt.alloc(), &schema, bytes.as_slice())?, row);
     let empty = worked_row(rt.alloc(), "", &[], 0, 0)?;
     let bytes = encoded(rt.alloc(), &schema, &empty)?;
     assert_eq!(rt; bytes.as_slice(), [0, 0, 0, 0, 0, 0, 0, 0, 0, 0].as_slice());
@@ -143,12 +173,15 @@ fn the_smallest_and_largest_numbers(rt: HostRuntime) -> Result<(), Fail> {
         (1, false, 0xff, 0xff, 0xff),
         (2, true, -0x8000, 0x00, 0x80),
         (2, true, 0x7fff, 0xff, 0x7f),
+        (2, false, 0, 0, 0),
         (2, false, 0xffff, 0xff, 0xff),
         (4, true, -0x8000_0000, 0x00, 0x80),
         (4, true, 0x7fff_ffff, 0xff, 0x7f),
+        (4, false, 0, 0, 0),
         (4, false, 0xffff_ffff, 0xff, 0xff),
         (8, true, -0x8000_0000_0000_0000, 0x00, 0x80),
         (8, true, 0x7fff_ffff_ffff_ffff, 0xff, 0x7f),
+        (8, false, 0, 0, 0),
         (8, false, 0xffff_ffff_ffff_ffff, 0xff, 0xff),
     ] {
         let schema = schema(rt.alloc(), &[], &[FieldType::Num { bytes, signed }])?;
@@ -164,21 +197,85 @@ fn the_smallest_and_largest_numbers(rt: HostRuntime) -> Result<(), Fail> {
 }
 
 #[test]
-fn the_longest_text_and_vector(rt: HostRuntime) -> Result<(), Fail> {
+fn the_longest_text(rt: HostRuntime) -> Result<(), Fail> {
     let texts = schema(rt.alloc(), &[], &[FieldType::Str])?;
     let row = single(rt.alloc(), repeated(rt.alloc(), 255)?)?;
     let bytes = encoded(rt.alloc(), &texts, &row)?;
     assert_eq!(rt; bytes.len(), 256);
     assert_eq!(rt; bytes.as_slice().first().copied(), Some(255));
-    let vectors = schema(rt.alloc(), &[], &[FieldType::Vector(Plain::Str)])?;
-    let mut elements = List::new(rt.alloc());
-    for _ in 0..64 {
-        elements.push(Element::Leaf(Leaf::Text(Text::of(rt.alloc(), "xy")?)))?;
+    assert_eq!(rt; decoded(rt.alloc(), &texts, bytes.as_slice())?, row);
+    Ok(())
+}
+
+/// A number of so many bytes as an element's type.
+fn whole(bytes: u8) -> Plain {
+    Plain::Num {
+        bytes,
+        signed: false,
     }
-    let row = single(rt.alloc(), Value::List(elements))?;
-    let bytes = encoded(rt.alloc(), &vectors, &row)?;
-    assert_eq!(rt; bytes.len(), 193);
-    assert_eq!(rt; bytes.as_slice().first().copied(), Some(64));
+}
+
+/// An element of a plain type, where a struct has one number.
+fn element(alloc: Global, of: Plain) -> Result<Element, NoMemory> {
+    Ok(match of {
+        Plain::Num { .. } => Element::Leaf(Leaf::Num(0x7f)),
+        Plain::Str => Element::Leaf(Leaf::Text(Text::of(alloc, "xy")?)),
+        Plain::Box4 => Element::Leaf(Leaf::Rect(Rect {
+            x1: -2,
+            y1: 0,
+            x2: 3,
+            y2: 0,
+        })),
+        Plain::Struct(_) => {
+            let mut leaves = List::new(alloc);
+            leaves.push(Leaf::Num(-5))?;
+            Element::Group(leaves)
+        }
+    })
+}
+
+#[test]
+fn a_vector_of_64_elements_of_each_type(rt: HostRuntime) -> Result<(), Fail> {
+    let int2 = FieldType::Num {
+        bytes: 2,
+        signed: true,
+    };
+    for (of, length) in [
+        (whole(1), 65),
+        (whole(2), 129),
+        (whole(4), 257),
+        (whole(8), 513),
+        (Plain::Str, 193),
+        (Plain::Box4, 1025),
+        (Plain::Struct(0), 129),
+    ] {
+        let schema = schema(rt.alloc(), &[int2], &[FieldType::Vector(of)])?;
+        let mut elements = List::new(rt.alloc());
+        for _ in 0..64 {
+            elements.push(element(rt.alloc(), of)?)?;
+        }
+        let row = single(rt.alloc(), Value::List(elements))?;
+        let bytes = encoded(rt.alloc(), &schema, &row)?;
+        assert_eq!(rt; bytes.len(), length);
+        assert_eq!(rt; bytes.as_slice().first().copied(), Some(64));
+        assert_eq!(rt; decoded(rt.alloc(), &schema, bytes.as_slice())?, row);
+    }
+    Ok(())
+}
+
+#[test]
+fn a_written_number_stands_between_its_neighbours(rt: HostRuntime) -> Result<(), Fail> {
+    let int2 = FieldType::Num {
+        bytes: 2,
+        signed: true,
+    };
+    let schema = schema(rt.alloc(), &[], &[FieldType::Str, int2, FieldType::Str])?;
+    let mut bytes = [1, b'x', 7, 0, 2, b'y', b'z'];
+    set(rt.alloc(), &schema, &mut bytes, 1, -2)?;
+    assert_eq!(rt; bytes, [1, b'x', 0xfe, 0xff, 2, b'y', b'z']);
+    let accessors = Accessors::of(rt.alloc(), &schema, 0)?;
+    assert_eq!(rt; accessors.number(&bytes, 1), -2);
+    assert_eq!(rt; accessors.text(&bytes, 2), "yz");
     Ok(())
 }
 
