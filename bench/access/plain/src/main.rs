@@ -2,8 +2,8 @@
 use std::time::Instant;
 
 const ROWS: u32 = 64;
-const NUMBER_CALLS: u64 = 8_000_000;
-const ROW_CALLS: u64 = 400_000;
+const NUMBER_CALLS: u64 = 1_000_000;
+const ROW_CALLS: u64 = 50_000;
 const ROW_LIMIT: usize = 4000;
 
 #[derive(Clone, Copy)]
