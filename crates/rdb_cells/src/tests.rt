@@ -202,3 +202,27 @@ fn free_cells_are_those_of_the_class(rt: HostRuntime) -> Result<(), Fail> {
     );
     Ok(())
 }
+
+fn next_free<C: Cells>(cells: &C, class: u32, above: u32) -> Option<u32> {
+    cells.free_after(class, CellRef { number: above }).map(|at| at.number)
+}
+
+#[test]
+fn what_lies_over_cells_changes_which_are_free(rt: HostRuntime) -> Result<(), Fail> {
+    let mut cells = MemoryCells::new(rt.alloc(), &[0, 1], 0)?;
+    let mut undo = Undo::reserve(rt.alloc(), 2)?;
+    write(&rt, &mut cells, &mut undo, 1, 10);
+    write(&rt, &mut cells, &mut undo, 2, 20);
+    assert_eq!(rt; next_free(&cells, 0, 0), Some(3));
+    let settled = Settled::over(&cells, [&undo].as_slice());
+    assert_eq!(rt; (next_free(&settled, 0, 0), next_free(&settled, 0, 1), next_free(&settled, 0, 2)), (Some(1), Some(2), Some(3)));
+    let mut overlay = Overlay::over(&cells, Plan::reserve(rt.alloc(), 2)?, 0);
+    for (number, word) in [(2, 0), (3, 30)] {
+        let at = CellRef { number };
+        assert!(rt; cells.holds(at));
+        overlay.put(at, filled_with(word));
+    }
+    assert_eq!(rt; (next_free(&overlay, 0, 0), next_free(&overlay, 0, 2), next_free(&overlay, 1, 0)), (Some(2), Some(4), Some(65)));
+    let _plan = overlay.plan();
+    Ok(())
+}
