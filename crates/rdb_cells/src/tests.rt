@@ -214,7 +214,8 @@ fn what_lies_over_cells_changes_which_are_free(rt: HostRuntime) -> Result<(), Fa
     write(&rt, &mut cells, &mut undo, 1, 10);
     write(&rt, &mut cells, &mut undo, 2, 20);
     assert_eq!(rt; next_free(&cells, 0, 0), Some(3));
-    let settled = Settled::over(&cells, [&undo].as_slice());
+    let records = [&undo];
+    let settled = Settled::over(&cells, records.as_slice());
     assert_eq!(rt; (next_free(&settled, 0, 0), next_free(&settled, 0, 1), next_free(&settled, 0, 2)), (Some(1), Some(2), Some(3)));
     let mut overlay = Overlay::over(&cells, Plan::reserve(rt.alloc(), 2)?, 0);
     for (number, word) in [(2, 0), (3, 30)] {
