@@ -23,3 +23,8 @@ pub mod EventLemmas
 pub mod EventIds
 pub mod MadeObjects
 pub mod CommitSound
+pub mod FirstFaultLemmas
+pub mod TallyLemmas
+pub mod JudgingLemmas
+pub mod AnsweringLemmas
+pub mod LegalityLemmas

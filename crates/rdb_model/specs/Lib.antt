@@ -12,3 +12,5 @@ pub mod Seek
 pub mod Validation
 pub mod SerialRun
 pub mod Events
+pub mod FirstFault
+pub mod Tallies

@@ -1,0 +1,9 @@
+use Rattle.std.proofs.Common.{ℕ, ◌<◌, get_or}
+use Rattle.rdb_base.specs.declared.operation.Op.{Op}
+use Rattle.rdb_base.specs.declared.operation.Reply.{Reply}
+use Rattle.rdb_model.specs.Fits.{Fits}
+use Rattle.rdb_model.proofs.legality.each_fits.Given as goal
+
+-- each operation so far fits
+abbrev pub invariant-loop-op : goal.invariant-loop-op
+invariant-loop-op l = (k : ℕ) (d : Op × Reply) → k < l.op-index → Fits l.schema (get_or l.op-items k d).0 l.kind
