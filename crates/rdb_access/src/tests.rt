@@ -1,14 +1,15 @@
-//! Rows whose bytes are known, and each reader on them.
+//! Rows whose bytes are known, and each call on them.
 
 use crate::accessors::Accessors;
 use crate::encode::EncodeFault;
 use rdb_base::files::Bytes;
 use rdb_base::list::{List, NoMemory};
 use rdb_base::text::Text;
-use rdb_base::value::{Element, Leaf, Row, Value};
+use rdb_base::value::{Element, Leaf, Rect, Row, Value};
 use rdb_schema::schema::{Class, Field, FieldType, Group, Plain, Schema};
-use rdb_schema::values::row_holds;
+use rdb_schema::values::{holds, row_holds};
 use std::alloc::Global;
+use std::process::Abort;
 use std::test::Fail;
 
 fn fields(alloc: Global, types: &[FieldType]) -> Result<List<Field>, NoMemory> {
@@ -54,6 +55,35 @@ fn encoded(alloc: Global, schema: &Schema, row: &Row) -> Result<Bytes, EncodeFau
     } else {
         Err(EncodeFault::NoMemory)
     }
+}
+
+/// The row of the first class that bytes encode.
+fn decoded(alloc: Global, schema: &Schema, bytes: &[u8]) -> Result<Row, NoMemory> {
+    Accessors::of(alloc, schema, 0)?.decode(bytes)
+}
+
+/// Writes a number over that in a field of the first class; nothing where it isn't one of the field's type.
+#[tactic(auto, using(crate::proofs::Lengths::number_fits_of))]
+fn set(
+    alloc: Global,
+    schema: &Schema,
+    bytes: &mut [u8],
+    field: u32,
+    number: i128,
+) -> Result<(), NoMemory> {
+    let accessors = Accessors::of(alloc, schema, 0)?;
+    if schema.classes.len() < 1 {
+        return Ok(());
+    }
+    let class = schema.classes.at(0);
+    if class.fields.len() <= field as usize {
+        return Ok(());
+    }
+    let declared = class.fields.at(field as usize);
+    if holds(schema, &declared.ty, &Value::Leaf(Leaf::Num(number))) {
+        accessors.set_number(bytes, field, number);
+    }
+    Ok(())
 }
 
 fn repeated(alloc: Global, count: usize) -> Result<Value, NoMemory> {
@@ -134,6 +164,32 @@ fn a_row_is_its_fields_one_after_another(rt: HostRuntime) -> Result<(), Fail> {
     Ok(())
 }
 
+/// A number's type, a number of it, and the first and last byte of its encoding.
+#[derive(Drop)]
+struct Bound {
+    bytes: u8,
+    signed: bool,
+    number: i128,
+    first: u8,
+    last: u8,
+}
+
+fn check_bound(rt: &impl Abort, alloc: Global, bound: &Bound) -> Result<(), Fail> {
+    let ty = FieldType::Num {
+        bytes: bound.bytes,
+        signed: bound.signed,
+    };
+    let schema = schema(alloc, &[], &[ty])?;
+    let row = single(alloc, Value::Leaf(Leaf::Num(bound.number)))?;
+    let coded = encoded(alloc, &schema, &row)?;
+    assert_eq!(rt; coded.len(), usize::from(bound.bytes));
+    assert_eq!(rt; coded.as_slice().first().copied(), Some(bound.first));
+    assert_eq!(rt; coded.as_slice().last().copied(), Some(bound.last));
+    let accessors = Accessors::of(alloc, &schema, 0)?;
+    assert_eq!(rt; accessors.number(coded.as_slice(), 0), bound.number);
+    Ok(())
+}
+
 #[test]
 fn the_smallest_and_largest_numbers(rt: HostRuntime) -> Result<(), Fail> {
     for (bytes, signed, number, first, last) in [
@@ -143,42 +199,120 @@ fn the_smallest_and_largest_numbers(rt: HostRuntime) -> Result<(), Fail> {
         (1, false, 0xff, 0xff, 0xff),
         (2, true, -0x8000, 0x00, 0x80),
         (2, true, 0x7fff, 0xff, 0x7f),
+        (2, false, 0, 0, 0),
         (2, false, 0xffff, 0xff, 0xff),
         (4, true, -0x8000_0000, 0x00, 0x80),
         (4, true, 0x7fff_ffff, 0xff, 0x7f),
+        (4, false, 0, 0, 0),
         (4, false, 0xffff_ffff, 0xff, 0xff),
         (8, true, -0x8000_0000_0000_0000, 0x00, 0x80),
         (8, true, 0x7fff_ffff_ffff_ffff, 0xff, 0x7f),
+        (8, false, 0, 0, 0),
         (8, false, 0xffff_ffff_ffff_ffff, 0xff, 0xff),
     ] {
-        let schema = schema(rt.alloc(), &[], &[FieldType::Num { bytes, signed }])?;
-        let row = single(rt.alloc(), Value::Leaf(Leaf::Num(number)))?;
-        let coded = encoded(rt.alloc(), &schema, &row)?;
-        assert_eq!(rt; coded.len(), usize::from(bytes));
-        assert_eq!(rt; coded.as_slice().first().copied(), Some(first));
-        assert_eq!(rt; coded.as_slice().last().copied(), Some(last));
-        let accessors = Accessors::of(rt.alloc(), &schema, 0)?;
-        assert_eq!(rt; accessors.number(coded.as_slice(), 0), number);
+        let bound = Bound {
+            bytes,
+            signed,
+            number,
+            first,
+            last,
+        };
+        check_bound(&rt, rt.alloc(), &bound)?;
+    }
+    Ok(())
+}
+
+/// A row of one field and how long its encoding is, which begins with a length or a count.
+fn check_single(
+    rt: &impl Abort,
+    alloc: Global,
+    schema: &Schema,
+    value: Value,
+    first: u8,
+    length: usize,
+) -> Result<(), Fail> {
+    let row = single(alloc, value)?;
+    let bytes = encoded(alloc, schema, &row)?;
+    assert_eq!(rt; bytes.len(), length);
+    assert_eq!(rt; bytes.as_slice().first().copied(), Some(first));
+    assert_eq!(rt; decoded(alloc, schema, bytes.as_slice())?, row);
+    Ok(())
+}
+
+/// A number of so many bytes as an element's type.
+fn whole(bytes: u8) -> Plain {
+    Plain::Num {
+        bytes,
+        signed: false,
+    }
+}
+
+/// An element of a plain type, where a struct has one number.
+fn element(alloc: Global, of: Plain) -> Result<Element, NoMemory> {
+    Ok(match of {
+        Plain::Num { .. } => Element::Leaf(Leaf::Num(0x7f)),
+        Plain::Str => Element::Leaf(Leaf::Text(Text::of(alloc, "xy")?)),
+        Plain::Box4 => Element::Leaf(Leaf::Rect(Rect {
+            x1: -2,
+            y1: 0,
+            x2: 3,
+            y2: 0,
+        })),
+        Plain::Struct(_) => {
+            let mut leaves = List::new(alloc);
+            leaves.push(Leaf::Num(-5))?;
+            Element::Group(leaves)
+        }
+    })
+}
+
+/// A vector of 64 elements of a plain type.
+fn vector(alloc: Global, of: Plain) -> Result<Value, NoMemory> {
+    let mut elements = List::new(alloc);
+    for _ in 0..64 {
+        elements.push(element(alloc, of)?)?;
+    }
+    Ok(Value::List(elements))
+}
+
+#[test]
+fn the_longest_text_and_vectors(rt: HostRuntime) -> Result<(), Fail> {
+    let texts = schema(rt.alloc(), &[], &[FieldType::Str])?;
+    let text = repeated(rt.alloc(), 255)?;
+    check_single(&rt, rt.alloc(), &texts, text, 255, 256)?;
+    let int2 = FieldType::Num {
+        bytes: 2,
+        signed: true,
+    };
+    for (of, length) in [
+        (whole(1), 65),
+        (whole(2), 129),
+        (whole(4), 257),
+        (whole(8), 513),
+        (Plain::Str, 193),
+        (Plain::Box4, 1025),
+        (Plain::Struct(0), 129),
+    ] {
+        let vectors = schema(rt.alloc(), &[int2], &[FieldType::Vector(of)])?;
+        let value = vector(rt.alloc(), of)?;
+        check_single(&rt, rt.alloc(), &vectors, value, 64, length)?;
     }
     Ok(())
 }
 
 #[test]
-fn the_longest_text_and_vector(rt: HostRuntime) -> Result<(), Fail> {
-    let texts = schema(rt.alloc(), &[], &[FieldType::Str])?;
-    let row = single(rt.alloc(), repeated(rt.alloc(), 255)?)?;
-    let bytes = encoded(rt.alloc(), &texts, &row)?;
-    assert_eq!(rt; bytes.len(), 256);
-    assert_eq!(rt; bytes.as_slice().first().copied(), Some(255));
-    let vectors = schema(rt.alloc(), &[], &[FieldType::Vector(Plain::Str)])?;
-    let mut elements = List::new(rt.alloc());
-    for _ in 0..64 {
-        elements.push(Element::Leaf(Leaf::Text(Text::of(rt.alloc(), "xy")?)))?;
-    }
-    let row = single(rt.alloc(), Value::List(elements))?;
-    let bytes = encoded(rt.alloc(), &vectors, &row)?;
-    assert_eq!(rt; bytes.len(), 193);
-    assert_eq!(rt; bytes.as_slice().first().copied(), Some(64));
+fn a_written_number_stands_between_its_neighbours(rt: HostRuntime) -> Result<(), Fail> {
+    let int2 = FieldType::Num {
+        bytes: 2,
+        signed: true,
+    };
+    let schema = schema(rt.alloc(), &[], &[FieldType::Str, int2, FieldType::Str])?;
+    let mut bytes = [1, b'x', 7, 0, 2, b'y', b'z'];
+    set(rt.alloc(), &schema, &mut bytes, 1, -2)?;
+    assert_eq!(rt; bytes, [1, b'x', 0xfe, 0xff, 2, b'y', b'z']);
+    let accessors = Accessors::of(rt.alloc(), &schema, 0)?;
+    assert_eq!(rt; accessors.number(&bytes, 1), -2);
+    assert_eq!(rt; accessors.text(&bytes, 2), "yz");
     Ok(())
 }
 
