@@ -1,9 +1,8 @@
 -- Each kind of step keeps the rule of the turn lock.
-use Rattle.std.proofs.Common.{◌≡◌, ◌≢◌, ℕ, ◌+◌, ◌-◌, ◌/◌, ◌%◌, ◌^◌, ◌<◌, ◌≤◌, ◌⊎◌, zero, suc, Bool, true, false, eqb, nat_lt, cond, List, [], ◌∷◌, ◌++◌, length, get_or, set, refl, ap, sym, ◌∙◌, subst, inl, inr, ⊎_elim, arith, Option, Some, None, sum_by, Contains, eq-eqb, ne_eqb, replicate, length-set, get_or-set_same, get_or-set_other}
+use Rattle.std.proofs.Common.{◌≡◌, ◌≢◌, ℕ, ◌+◌, ◌-◌, ◌/◌, ◌%◌, ◌^◌, ◌<◌, ◌≤◌, ◌⊎◌, zero, suc, Bool, true, false, eqb, cond, List, [], ◌∷◌, ◌++◌, length, get_or, set, refl, ap, sym, ◌∙◌, subst, inl, inr, ⊎_elim, arith, Option, Some, None, sum_by, Contains, eq-eqb, ne_eqb, replicate, length-set, get_or-set_same, get_or-set_other}
 use Rattle.std.proofs.Math.Nat.{mod-add-mod}
 use Rattle.std.proofs.lemmas.List.Sums.{sum_by_push}
 use Rattle.std.proofs.lemmas.List.Elements.{Contains-append_left, Contains-append_right, Contains-append_cases}
-use Rattle.std.proofs.lemmas.Bool.Decides.{nat_tests}
 use mathlib.Core.Logic.{dite}
 use native.Mathlib.Decide.{ℕ_discrete}
 use mathlib.Core.Option.{some, some-injective, some-ne-none}
@@ -17,10 +16,11 @@ use Rattle.rdb_base.specs.declared.chronicle.Chronicle.{Ghosts}
 use Rattle.rdb_turn.specs.declared.view.View.{View}
 use Rattle.rdb_turn.specs.declared.view.Stand.{Stand}
 use Rattle.rdb_turn.specs.declared.view.Stand.TheVariants.{Away, Waits, Inside}
-use Rattle.rdb_turn.specs.Rule.{is_inside, turns_held, tickets_out, first_view, held_of, out_of, shares_of, IsClient, IsStopped, Owns, OwnsSlot, Follows, FollowsAll, KeepsPart, Stands, KnowsParts, Knows, Keeps}
-use Rattle.rdb_turn.specs.Steps.{Mine, standing, seeing, knowing, left_in, Draws, Looks, Raises, Releases, Fronts, KeepsFirst, KeepsSecond, Marks, Stops, Sees, MayLeave, MayRaise, MayRelease, entered, published, half_kept, half_given, part_kept, part_given, both_views, spent_view}
+use Rattle.rdb_turn.specs.Rule.{all_shares, is_inside, turns_held, tickets_out, first_view, held_of, out_of, shares_of, IsClient, IsStopped, Owns, OwnsSlot, Follows, FollowsAll, KeepsPart, Stands, KnowsParts, Knows, Keeps}
+use Rattle.rdb_turn.specs.Steps.{Mine, standing, seeing, knowing, left_in, Draws, Looks, Raises, Releases, Fronts, KeepsFirst, KeepsSecond, Marks, Stops, Sees, MayLeave, MayRaise, MayRelease, entered, published, half_kept, half_given, part_kept, part_given, unagreed, both_stopped, both_views, spent_view}
 use Rattle.rdb_turn.proofs.Beginnings.{follows_itself, follows_further, follows_between, all_further, all_of_both, part_further}
 use Rattle.rdb_turn.proofs.Parts.{owned_below, owned_left, owned_both, owned_without, owned_only}
+use Rattle.rdb_turn.proofs.Agreeing.{none_unagreed, stopped_both}
 use Rattle.rdb_turn.proofs.Sums.{sum_set, sum_at, sum_below, sum_none}
 
 -- f, but x at k
@@ -92,6 +92,10 @@ first_of_all x = (0, omega arith, refl)
 
 pub none_there : (x : ℕ) → Contains [] x → ⊥
 none_there x (k, low, at) = omega arith
+
+-- nobody knows that client 0 has stopped
+nobody : {Q : ℕ → Type 0} (stopped : List ℕ) → ((client : ℕ) → Contains stopped client → IsClient client × Q client) → ¬ Contains stopped 0
+nobody stopped words = λ h. let low : 1 ≤ 0 = (words 0 h).0.0 in omega (arith, low)
 
 zeros : (n i : ℕ) → ◌≡◌ {A = ℕ} (get_or (replicate {A = ℕ} n 0) i 0) 0
 zeros zero i = refl
@@ -443,8 +447,8 @@ module _ {T E B P : Type 0} (c : Ghosts T E B P) (made : T) (boarded : Bool) whe
           λ x y is.
               let first : a ≡ x = cc (two, is) in
               let second : b ≡ y = cc (two, is) in
-              subst (λ (p : T × T). (◌≡◌ {A = Mine T} (w, me.1) (seeing me.0 p.0, me.1)) × Follows c p.1 p.0)
-              (λ i. (first i, second i)) (refl, follows_between c b a r.now goes.1.0 goes.0 le),
+              subst (λ (p : T × T). (◌≡◌ {A = Mine T} (w, me.1) (seeing me.0 p.0, me.1)) × Follows c p.1 p.0 × ¬ Contains me.0.stopped 0)
+              (λ i. (first i, second i)) (refl, follows_between c b a r.now goes.1.0 goes.0 le, nobody me.0.stopped k.knows.words),
         )
 
     pub keeps_second : (a b : T) → me.0.stand ≡ Away → me.0.seen ≡ a ∷ b ∷ [] → length (c.history a) ≤ length (c.history b) → Allows Rule slots id me 1 (λ n. n) (λ _ after. KeepsSecond c me after)
@@ -460,8 +464,8 @@ module _ {T E B P : Type 0} (c : Ghosts T E B P) (made : T) (boarded : Bool) whe
           λ x y is.
               let first : a ≡ x = cc (two, is) in
               let second : b ≡ y = cc (two, is) in
-              subst (λ (p : T × T). (◌≡◌ {A = Mine T} (w, me.1) (seeing me.0 p.1, me.1)) × Follows c p.0 p.1)
-              (λ i. (first i, second i)) (refl, follows_between c a b r.now goes.0 goes.1.0 le),
+              subst (λ (p : T × T). (◌≡◌ {A = Mine T} (w, me.1) (seeing me.0 p.1, me.1)) × Follows c p.0 p.1 × ¬ Contains me.0.stopped 0)
+              (λ i. (first i, second i)) (refl, follows_between c a b r.now goes.0 goes.1.0 le, nobody me.0.stopped k.knows.words),
         )
 
     pub marks : (slot : ℕ) → Allows Rule slots id me 0 (λ n. either (eqb n slot) slot n) (λ _ after. Marks slot me after)
@@ -678,6 +682,15 @@ module _ {T E B P : Type 0} (c : Ghosts T E B P) (made : T) (boarded : Bool) whe
     told = k.told;
   }
 
+  -- of a client whose part it owns, a pass knows all that another has seen
+  told_of_own : (s : St) (r : Rule s) (id other : ℕ) (v w : View T) → get_elem? s.views id ≡ some v → get_elem? s.views other ≡ some w → unagreed v.owned v.stopped w.stopped ≡ []
+  told_of_own s r id other v w at there = let k = (r.knows id v at).knows in let l = (r.knows other w there).knows in
+      none_unagreed v.owned v.stopped w.stopped (λ client owns h. let is = l.words client h in k.own_word client owns is.0 is.1)
+
+  -- so nothing is open between the two
+  both_agree : (s : St) (r : Rule s) (id other : ℕ) (v w : View T) → get_elem? s.views id ≡ some v → get_elem? s.views other ≡ some w → both_stopped v w ≡ v.stopped ++ w.stopped
+  both_agree s r id other v w at there = stopped_both v w (told_of_own s r id other v w at there) (told_of_own s r other id w v there at)
+
   -- what the pass that met another knows, and what all others do
   both_or_other : (s : St) (r : Rule s) (id other : ℕ) (v w both : View T) (holder : ℕ → ℕ) → ¬ (other ≡ id) → get_elem? s.views id ≡ some v → get_elem? s.views other ≡ some w → (j : ℕ) (u : View T) → j ≢ other
       → Knows c boarded r.board (handed r.holder other id) r.drawn r.served r.owner r.now id both → get_elem? (set s.views id both) j ≡ some u → Knows c boarded r.board (handed r.holder other id) r.drawn r.served r.owner r.now j u
@@ -729,7 +742,7 @@ module _ {T E B P : Type 0} (c : Ghosts T E B P) (made : T) (boarded : Bool) whe
         knows = all_know F vs other spent_view
             record { shared = omega arith; follows = tt; stands = tt; knows = record { parts = λ slot x o. absurd o; condemned = λ slot h. absurd (none_there slot h); words = λ client h. absurd (none_there client h); own_word = λ client owns is h. absurd owns.1; told = λ e. absurd (cc e) } }
             (λ j u ne here. both_or_other s r id other v w both holder apart at second j u ne
-            record { shared = omega (arith, none_out); follows = all_of_both c v.seen w.seen r.now k.follows l.follows; stands = subst (Stands c r.drawn r.served r.owner r.now id both.seen) (sym away) tt; knows = both_know s r id other v w apart at second }
+            record { shared = omega (arith, none_out); follows = all_of_both c v.seen w.seen r.now k.follows l.follows; stands = subst (Stands c r.drawn r.served r.owner r.now id both.seen) (sym away) tt; knows = subst (λ (st : List ℕ). KnowsParts c boarded r.board holder r.now id (v.owned ++ w.owned) (v.gone ++ w.gone) st v.boarded) (sym (both_agree s r id other v w at second)) (both_know s r id other v w apart at second) }
             here);
         home = λ zero. r.home (omega (arith, held, held', none_held', zero));
       }
@@ -742,6 +755,22 @@ module _ {T E B P : Type 0} (c : Ghosts T E B P) (made : T) (boarded : Bool) whe
       let done : r.served ≡ r.drawn = one_turn r.served r.drawn (2 ^ 64) (omega (arith, r.out)) few words in
       let below = sum_below held_of out_of s.views (λ i u _. one_each u.stand) in
       (omega (arith, r.out, done), r.home (omega (arith, r.out, done, below)))
+
+  -- a pass that has met all others, and has no ticket out, finds every ticket served
+  pub sole_served : (s : St) (r : Rule s) (id : ℕ) (v : View T) → get_elem? s.views id ≡ some v → v.shares ≡ all_shares → v.stand ≡ Away → get_elem? s.words 1 ≡ get_elem? s.words 0
+  sole_served s r id v at all away =
+      let spent : View T = record v { shares = 0 } in
+      let vs = set s.views id spent in
+      let none_out : tickets_out v.stand ≡ 0 = ap tickets_out away in
+      let shares = sum_set shares_of s.views id v spent at in
+      let out = sum_set out_of s.views id v spent at in
+      let few : (i : ℕ) (u : View T) → get_elem? vs i ≡ some u → out_of u ≤ shares_of u = λ i u here. ⊎_elim
+      (λ (mine : (i ≡ id) × (spent ≡ u)). subst (λ (x : View T). out_of x ≤ shares_of x) mine.1 (omega (arith, none_out)))
+      (λ (yours : (i ≢ id) × (get_elem? s.views i ≡ some u)). (r.knows i u yours.1).shared)
+      (at_set s.views id i spent u here) in
+      let below = sum_below out_of shares_of vs few in
+      let done : r.served ≡ r.drawn = omega (arith, shares, out, below, r.shares, r.out, all) in
+      ap (λ (l : List ℕ). get_elem? l 1) r.words ∙ (ap (λ (n : ℕ). some (n % 2 ^ 64)) done ∙ sym (ap (λ (l : List ℕ). get_elem? l 0) r.words))
 
   -- who has no ticket out is not inside
   none_inside : (stand : Stand) → tickets_out stand ≡ 0 → is_inside stand ≡ false

@@ -10,13 +10,13 @@ use Rattle.rdb_base.specs.declared.chronicle.Chronicle.{Ghosts}
 use Rattle.rdb_turn.specs.declared.view.View.{View}
 use Rattle.rdb_turn.specs.declared.view.Stand.{Stand}
 use Rattle.rdb_turn.specs.declared.view.Stand.TheVariants.{Away, Waits, Inside}
-use Rattle.rdb_turn.specs.Rule.{is_inside, Follows, FollowsAll, KeepsPart, OwnsSlot, IsClient, Keeps}
-use Rattle.rdb_turn.specs.Steps.{Mine, standing, seeing, published, Welcomes, Raises, KeepsFirst, KeepsSecond, Settles, MayLeave, MayRaise, MayRelease, both_views}
+use Rattle.rdb_turn.specs.Rule.{all_shares, is_inside, Follows, FollowsAll, KeepsPart, OwnsSlot, IsClient, Keeps}
+use Rattle.rdb_turn.specs.Steps.{Mine, standing, seeing, published, Welcomes, Raises, KeepsFirst, KeepsSecond, Settles, MayLeave, MayRaise, MayRelease, both_stopped, both_views}
 use Rattle.rdb_turn.specs.declared.pass.Pass.{Pass}
 use Rattle.rdb_turn.specs.declared.turn.Turn.{Turn}
 use Rattle.rdb_turn.specs.Passes.{Fits, history_of, EndsServed, EndsOut}
 use Rattle.rdb_turn.proofs.Beginnings.{follows_itself}
-use Rattle.rdb_turn.proofs.Kept.{closes, slot_of, all_served, not_inside}
+use Rattle.rdb_turn.proofs.Kept.{closes, slot_of, all_served, sole_served, not_inside}
 
 -- the pass with the turn has a ticket and the emptied slot
 pub inside_at : {T : Type 0} (ticket : ℕ) (carried : List (ℕ × Option T)) (stand : Stand) → Fits ticket carried stand → is_inside stand ≡ true
@@ -77,21 +77,21 @@ module _ {T E B P : Type 0} (c : Ghosts T E B P) where
   settled_first a b m n long two is tells = λ x y seen.
       let told = tells x y seen in
       let first : a ≡ x = cc (two, seen) in
-      record { kept = x; one = inl refl; seen = told.0; of_first = follows_itself c x; of_second = told.1; counted = is ∙ ap (λ z. length (c.history z)) first }
+      record { kept = x; one = inl refl; seen = told.0; of_first = follows_itself c x; of_second = told.1; counted = is ∙ ap (λ z. length (c.history z)) first; agreed = told.2 }
 
   pub settled_second : (a b : T) (m n : Mine T) (long : ℕ) → m.0.seen ≡ a ∷ b ∷ [] → long ≡ length (c.history b) → KeepsSecond c m n → Settles c m long n
   settled_second a b m n long two is tells = λ x y seen.
       let told = tells x y seen in
       let second : b ≡ y = cc (two, seen) in
-      record { kept = y; one = inr refl; seen = told.0; of_first = told.1; of_second = follows_itself c y; counted = is ∙ ap (λ z. length (c.history z)) second }
+      record { kept = y; one = inr refl; seen = told.0; of_first = told.1; of_second = follows_itself c y; counted = is ∙ ap (λ z. length (c.history z)) second; agreed = told.2 }
 
   -- what a pass knows once it has met another
   pub met : (v w : View T) (a b : T) (carried : List (ℕ × Option T)) (m n : Mine T) (long : ℕ) → v.seen ≡ a ∷ [] → w.seen ≡ b ∷ [] → m ≡ (both_views v w, carried) → Settles c m long n
-      → (kept : T) × ((kept ≡ a) ⊎ (kept ≡ b)) × (◌≡◌ {A = Mine T} n (seeing (both_views v w) kept, carried)) × Follows c a kept × Follows c b kept × (long ≡ length (c.history kept))
+      → (kept : T) × ((kept ≡ a) ⊎ (kept ≡ b)) × (◌≡◌ {A = Mine T} n (seeing (both_views v w) kept, carried)) × Follows c a kept × Follows c b kept × (long ≡ length (c.history kept)) × ¬ Contains (both_stopped v w) 0
   met v w a b carried m n long saw saw' was tells =
       let two : m.0.seen ≡ a ∷ b ∷ [] = ap (λ (k : Mine T). k.0.seen) was ∙ (λ i. saw i ++ saw' i) in
       let told = tells a b two in
-      (told.kept, told.one, told.seen ∙ ap (λ (k : Mine T). (seeing k.0 told.kept, k.1)) was, told.of_first, told.of_second, told.counted)
+      (told.kept, told.one, told.seen ∙ ap (λ (k : Mine T). (seeing k.0 told.kept, k.1)) was, told.of_first, told.of_second, told.counted, subst (λ (k : Mine T). ¬ Contains k.0.stopped 0) was told.agreed)
 
   -- what is found as the turn ends
   pub ends : (made latest : T) (boarded : Bool) (ws : List ℕ) (xs : List (Option T)) (id : ℕ) (v : View T) (ticket serving : ℕ) (out : Option T)
@@ -126,6 +126,14 @@ module _ {T E B P : Type 0} (c : Ghosts T E B P) where
       let home : get_elem? xs 0 ≡ some (Some r.now) = values 0 (Some r.now) (ap (λ (hs : List (maybe.Option (Option T))). get_elem? hs 0) end.1) in
       let both : Some r.now ≡ Some value = some-injective (Some r.now) out (sym home ∙ there) ∙ is in
       let last : r.now ≡ value = cc both in (
-        record { table = s; is_table = record { keeps = r; knows = at }; served = equal; home = end.1 ∙ ap (λ (x : T). some (Some x) ∷ []) last },
+        record { table = s; is_table = record { keeps = r; knows = at }; served = equal; home = end.1 ∙ ap (λ (x : T). some (Some x) ∷ []) last; every = λ i u here. subst (λ (x : T). FollowsAll c u.seen x) last (r.knows i u here).follows },
         not_inside c made boarded s r pass.place.id pass.place.me.0 at end.0,
       )
+
+  -- where the pass has met all others and is not inside, no ticket is out
+  pub ends_sole : (turn : Turn T E B P) (pass : Pass T) (ws : List ℕ) (xs : List (Option T)) (ticket serving : ℕ)
+      → Final (Seen (Keeps c turn.table.shared.key.made.value turn.table.shared.key.boarded) pass.place.id pass.place.me.0) ws xs → get_elem? ws 0 ≡ some ticket → get_elem? ws 1 ≡ some serving → ticket ≢ serving
+      → pass.place.me.0.shares ≡ all_shares → pass.place.me.0.stand ≡ Away → ⊥
+  ends_sole turn pass ws xs ticket serving (s, (r, at), words, count, values) first second out all away =
+      let equal = sole_served c turn.table.shared.key.made.value turn.table.shared.key.boarded s r pass.place.id pass.place.me.0 at all away in
+      out (some-injective ticket serving (sym first ∙ (ap (λ (l : List ℕ). get_elem? l 0) (sym words) ∙ (sym equal ∙ (ap (λ (l : List ℕ). get_elem? l 1) words ∙ second)))))

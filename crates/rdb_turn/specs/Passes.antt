@@ -9,7 +9,7 @@ use Rattle.rdb_turn.specs.declared.turn.Turn.{Turn}
 use Rattle.rdb_turn.specs.declared.view.View.{View}
 use Rattle.rdb_turn.specs.declared.view.Stand.{Stand}
 use Rattle.rdb_turn.specs.declared.view.Stand.TheVariants.{Away, Waits, Inside}
-use Rattle.rdb_turn.specs.Rule.{is_inside, OwnsSlot, parts_below, Keeps}
+use Rattle.rdb_turn.specs.Rule.{all_shares, is_inside, OwnsSlot, FollowsAll, parts_below, Keeps}
 
 -- what a pass holds of the slot, and its last ticket, fit where it stands: between two calls no pass waits
 abbrev pub Fits : {T : Type 0} → ℕ → List (ℕ × Option T) → Stand → Type 0
@@ -18,7 +18,7 @@ Fits ticket carried (Waits n) = ⊥
 Fits ticket carried (Inside n) = (carried ≡ (0, None) ∷ []) × (n % 2 ^ 64 ≡ ticket)
 
 -- What contracts see of a pass: the value that it has seen last, alone in a list; the slots whose parts it owns, each with the value in which its owner left it last;
--- the slots that it has seen condemned; the clients that it has seen stopped; whose it is, with 0 for nobody's; whether it has the turn; and how many turns it has entered.
+-- the slots that it has seen condemned; the clients that it has seen stopped; whose it is, with 0 for nobody's; whether it has the turn; how many turns it has entered; and how many passes it may become.
 pub record Known (T : Type 0) : Type 0 where
   pub seen : List T
   pub owned : List (ℕ × T)
@@ -27,6 +27,7 @@ pub record Known (T : Type 0) : Type 0 where
   pub client : ℕ
   pub has_turn : Bool
   pub turns : ℕ
+  pub shares : ℕ
 
 module _ {T : Type 0} where
   abbrev pub known : Pass T → Known T
@@ -38,7 +39,12 @@ module _ {T : Type 0} where
     client = pass.client;
     has_turn = is_inside pass.place.me.0.stand;
     turns = pass.turns;
+    shares = pass.place.me.0.shares;
   }
+
+  -- The pass may become as many as there can be: what was ever split off has met it again, so no other pass can have the turn.
+  abbrev pub HasMetAll : Pass T → Type 0
+  HasMetAll pass = (known pass).shares ≡ all_shares
 
   -- the pass owns the part of the slot
   abbrev pub IsOwner : Pass T → ℕ → Type 0
@@ -56,7 +62,7 @@ module _ {T E B P : Type 0} (c : Ghosts T E B P) where
 
   -- what is known of the pass that is made with the turn
   abbrev pub founder : T → Known T
-  founder value = record { seen = value ∷ []; owned = parts_below 32 value; gone = c.gone value; stopped = []; client = 0; has_turn = false; turns = 0 }
+  founder value = record { seen = value ∷ []; owned = parts_below 32 value; gone = c.gone value; stopped = []; client = 0; has_turn = false; turns = 0; shares = all_shares }
 
   -- the base of the value that the turn was made with
   abbrev pub base_of : Turn T E B P → B
@@ -80,12 +86,13 @@ module _ {T E B P : Type 0} (c : Ghosts T E B P) where
     pub keeps : Keeps c turn.table.shared.key.made.value turn.table.shared.key.boarded table
     pub knows : get_elem? table.views pass.place.id ≡ some pass.place.me.0
 
-  -- the turn ends with as many tickets served as were drawn, and with this value in its slot
+  -- the turn ends with as many tickets served as were drawn, and with this value in its slot, which goes on from all that any pass has seen
   pub record EndsServed (turn : Turn T E B P) (pass : Pass T) (value : T) : Type 0 where
     pub table : State (Option T) (View T)
     pub is_table : IsTableOf turn pass table
     pub served : get_elem? table.words 1 ≡ get_elem? table.words 0
     pub home : table.homes ≡ some (Some value) ∷ []
+    pub every : (id : ℕ) (view : View T) → get_elem? table.views id ≡ some view → FollowsAll c view.seen value
 
   -- the turn ends with these tickets drawn and served, modulo 2^64, which differ
   pub record EndsOut (turn : Turn T E B P) (pass : Pass T) (ticket serving : ℕ) : Type 0 where

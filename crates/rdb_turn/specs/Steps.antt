@@ -1,5 +1,5 @@
 -- What each kind of step tells the one who steps: of the pass before, the number found and the pass after.
-use Rattle.std.specs.Prelude.{◌≡◌, ◌≢◌, ◌⊎◌, ℕ, ◌+◌, ◌-◌, ◌/◌, ◌%◌, ◌^◌, List, [], ◌∷◌, ◌++◌, length, map, filter, not, ◌==◌, Contains, Option, Some, true, false}
+use Rattle.std.specs.Prelude.{◌≡◌, ◌≢◌, ◌⊎◌, ℕ, ◌+◌, ◌-◌, ◌/◌, ◌%◌, ◌^◌, List, [], ◌∷◌, ◌++◌, length, map, filter, Bool, cond, not, ◌&&◌, ◌||◌, ◌==◌, Contains, Option, Some, true, false}
 use Rattle.atomic_table.specs.Table.{Me, rest}
 use Rattle.atomic_table.specs.Seated.{TableId}
 use Rattle.atomic_table.specs.declared.shared.Seat.{Seat}
@@ -12,6 +12,11 @@ use Rattle.rdb_turn.specs.Rule.{turns_held, Owns, OwnsSlot, IsClient, Follows, F
 -- what a pass knows, and what it holds of the slot
 abbrev pub Mine : Type 0 → Type 0
 Mine T = Me (Option T) (View T)
+
+-- the client is among these
+abbrev pub is_among : List ℕ → ℕ → Bool
+is_among [] client = false
+is_among (x ∷ xs) client = (x == client) || is_among xs client
 
 module _ {T : Type 0} where
   -- the pass stands elsewhere
@@ -85,8 +90,23 @@ module _ {T : Type 0} where
   abbrev pub part_given : View T → View T
   part_given v = record v { shares = v.shares / 2; stand = Away; owned = only v.parting v.owned }
 
+  -- the slot's part is among these
+  abbrev pub is_owned : List (ℕ × T) → ℕ → Bool
+  is_owned [] slot = false
+  is_owned (p ∷ ps) slot = (p.0 == slot) || is_owned ps slot
+
+  -- Of two passes that meet, one knows that these clients have stopped: of those whose part the other owns, the other knows it too.
+  -- Where it doesn't, 0 stands for that client. No pass ever knows that 0 has stopped, and so there is none.
+  abbrev pub unagreed : List (ℕ × T) → List ℕ → List ℕ → List ℕ
+  unagreed owned known [] = []
+  unagreed owned known (client ∷ told) = cond (is_owned owned client && not (is_among known client)) (0 ∷ unagreed owned known told) (unagreed owned known told)
+
+  -- the clients that two passes know to have stopped
+  abbrev pub both_stopped : View T → View T → List ℕ
+  both_stopped v w = v.stopped ++ (w.stopped ++ (unagreed v.owned v.stopped w.stopped ++ unagreed w.owned w.stopped v.stopped))
+
   abbrev pub both_views : View T → View T → View T
-  both_views v w = record v { seen = v.seen ++ w.seen; shares = v.shares + w.shares; owned = v.owned ++ w.owned; gone = v.gone ++ w.gone; stopped = v.stopped ++ w.stopped }
+  both_views v w = record v { seen = v.seen ++ w.seen; shares = v.shares + w.shares; owned = v.owned ++ w.owned; gone = v.gone ++ w.gone; stopped = both_stopped v w }
 
   abbrev pub spent_view : View T
   spent_view = record { seen = []; shares = 0; stand = Away; owned = []; gone = []; stopped = []; boarded = false; parting = 0 }
@@ -134,13 +154,13 @@ module _ {T E B P : Type 0} (c : Ghosts T E B P) where
   abbrev pub Fronts : Mine T → ℕ → Mine T → Type 0
   Fronts me found after = (value : T) × (after ≡ (seeing me.0 value, me.1)) × (found ≡ length (c.history value)) × FollowsAll c me.0.seen value × (turns_held me.0.stand ≡ 1 → me.0.seen ≡ value ∷ [])
 
-  -- of two values that were seen the first is kept, which comes of the other
+  -- of two values that were seen the first is kept, which comes of the other; nobody knows that client 0 has stopped
   abbrev pub KeepsFirst : Mine T → Mine T → Type 0
-  KeepsFirst me after = (a b : T) → me.0.seen ≡ a ∷ b ∷ [] → (after ≡ (seeing me.0 a, me.1)) × Follows c b a
+  KeepsFirst me after = (a b : T) → me.0.seen ≡ a ∷ b ∷ [] → (after ≡ (seeing me.0 a, me.1)) × Follows c b a × ¬ Contains me.0.stopped 0
 
   -- the second is kept
   abbrev pub KeepsSecond : Mine T → Mine T → Type 0
-  KeepsSecond me after = (a b : T) → me.0.seen ≡ a ∷ b ∷ [] → (after ≡ (seeing me.0 b, me.1)) × Follows c a b
+  KeepsSecond me after = (a b : T) → me.0.seen ≡ a ∷ b ∷ [] → (after ≡ (seeing me.0 b, me.1)) × Follows c a b × ¬ Contains me.0.stopped 0
 
   -- two values were seen, whose histories have these lengths
   abbrev pub SawTwo : Mine T → ℕ → ℕ → Type 0
@@ -154,6 +174,7 @@ module _ {T E B P : Type 0} (c : Ghosts T E B P) where
     pub of_first : Follows c a kept
     pub of_second : Follows c b kept
     pub counted : long ≡ length (c.history kept)
+    pub agreed : ¬ Contains me.0.stopped 0
 
   abbrev pub Settles : Mine T → ℕ → Mine T → Type 0
   Settles me long after = (a b : T) → me.0.seen ≡ a ∷ b ∷ [] → Settled me a b long after

@@ -156,6 +156,18 @@ fn the_front_moves_while_a_third_has_the_turn(rt: HostRuntime) -> Result<(), Fai
 }
 
 #[test]
+fn a_pass_that_has_met_all_others_ends_the_turn(rt: HostRuntime) -> Result<(), Fail> {
+    let (turn, mut first) = Turn::make(rt.alloc(), Log::new(rt.alloc()))?;
+    let second = turn.split(&mut first)?;
+    turn.meet(&mut first, second);
+    let Ok(log) = turn.close(first) else {
+        unreachable!()
+    };
+    assert_eq!(rt; log.length(), 0);
+    Ok(())
+}
+
+#[test]
 fn a_client_has_stopped_once_it_wrote_so(rt: HostRuntime) -> Result<(), Fail> {
     let (turn, mut first) = Turn::make_boarded(rt.alloc(), Log::new(rt.alloc()))?;
     let mut client = turn.split_for(&mut first, 1)?;

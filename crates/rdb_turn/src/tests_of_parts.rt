@@ -85,6 +85,21 @@ fn condemn<R: Wait>(rt: &R, turn: &Turn<Count>, pass: &mut Pass<Count>) -> bool
     true
 }
 
+/// Whether client 1 is seen to have stopped, by a pass that then takes the client's own pass in. It is so only where the client had.
+fn look_and_meet(turn: &Turn<Count>, pass: &mut Pass<Count>, client: Pass<Count>) -> bool
+    requires pass { IsPassOf ⟦<Count as Chronicle>⟧ turn.now pass.old × ((known pass.old).has_turn ≡ false) }
+    requires client { IsPassOf ⟦<Count as Chronicle>⟧ turn.now client × ((known client).has_turn ≡ false) }
+    requires owns { OwnsSlot (known client).owned 1 }
+    ensures true_of_client { result ≡ true → Contains (known client).stopped 1 }
+    ensures owns { OwnsSlot (known pass.new).owned 1 }
+    ensures away { (known pass.new).has_turn ≡ false }
+    ensures pass { IsPassOf ⟦<Count as Chronicle>⟧ turn.now pass.new }
+{
+    let stopped = turn.stopped(pass, 1);
+    turn.meet(pass, client);
+    stopped
+}
+
 /// A turn with a board round a count of 0, the pass of its maker, and the pass of client 1.
 fn make_with_client(alloc: Global) -> Result<(Turn<Count>, Pass<Count>, Pass<Count>), NoMemory>
     ensures maker { IfOk result (λ r. IsPassOf ⟦<Count as Chronicle>⟧ r.0 r.1 × ((known r.1).has_turn ≡ false)) }
@@ -119,7 +134,7 @@ fn a_part_is_as_its_owner_left_it_until_it_is_condemned(rt: HostRuntime) -> Resu
 fn a_client_that_stopped_stays_stopped(rt: HostRuntime) -> Result<(), Fail> {
     let (turn, mut maker, mut client) = make_with_client(rt.alloc())?;
     turn.write_stop(&mut client);
-    turn.meet(&mut maker, client);
+    assert!(rt; look_and_meet(&turn, &mut maker, client));
     let mut again = turn.split_for(&mut maker, 1)?;
     assert!(rt;
         turn.stopped(&mut again, 1),

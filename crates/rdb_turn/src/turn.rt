@@ -1,5 +1,5 @@
 //! The turn lock itself.
-ghost use Rattle.std.specs.Prelude.{◌≡◌, ℕ, ◌+◌, ◌-◌, ◌≢◌, ◌^◌, ◌<◌, ◌≤◌, ◌⊎◌, ◌++◌, ◌∷◌, [], true, false, length, min, Contains, IfOk, IfErr, OnOk, OnErr, MatchBool};
+ghost use Rattle.std.specs.Prelude.{◌≡◌, ℕ, ◌+◌, ◌-◌, ◌/◌, ◌≢◌, ◌^◌, ◌<◌, ◌≤◌, ◌⊎◌, ◌++◌, ◌∷◌, [], true, false, length, min, Contains, IfOk, IfErr, OnOk, OnErr, IsOk, MatchBool};
 
 use crate::pass::Pass;
 use crate::rule::InTurn;
@@ -40,7 +40,7 @@ impl<T: Chronicle> Turn<T> {
     ghost use mathlib.Core.List.{IsPrefix};
     ghost use Rattle.rdb_turn.specs.Rule.{IsClient, Owns, OwnsSlot, KeepsPart};
     ghost use Rattle.rdb_turn.specs.Steps.{left_in, without, only};
-    ghost use Rattle.rdb_turn.specs.Passes.{known, seen, founder, IsPassOf, base_of, is_boarded, EndsServed, EndsOut};
+    ghost use Rattle.rdb_turn.specs.Passes.{known, seen, founder, HasMetAll, IsPassOf, base_of, is_boarded, EndsServed, EndsOut};
 
     /// Lays out a lock, with or without a board.
     fn lay(alloc: Global, value: T, boarded: bool) -> Result<(Turn<T>, Pass<T>), NoMemory>
@@ -164,8 +164,9 @@ impl<T: Chronicle> Turn<T> {
         requires pass { IsPassOf T.Chronicle self.now pass.old }
         requires away { (known pass.old).has_turn ≡ false }
         ensures new { IfOk result (λ p. IsPassOf T.Chronicle self.now p) }
-        ensures given { IfOk result (λ p. known p ≡ record (known pass.old) { owned = []; client = 0; turns = 0 }) }
-        ensures kept { known pass.new ≡ known pass.old }
+        ensures given { IfOk result (λ p. known p ≡ record (known pass.old) { owned = []; client = 0; turns = 0; shares = (known pass.old).shares / 2 }) }
+        ensures kept { OnOk result (known pass.new ≡ record (known pass.old) { shares = (known pass.old).shares - (known pass.old).shares / 2 }) }
+        ensures err { OnErr result (known pass.new ≡ known pass.old) }
         ensures pass { IsPassOf T.Chronicle self.now pass.new }
     {
         if pass.shares < 2 {
@@ -190,10 +191,10 @@ impl<T: Chronicle> Turn<T> {
         requires away { (known pass.old).has_turn ≡ false }
         requires owns { OwnsSlot (known pass.old).owned client }
         ensures new { IfOk result (λ p. IsPassOf T.Chronicle self.now p) }
-        ensures given { IfOk result (λ p. known p ≡ record (known pass.old) { owned = only client (known pass.old).owned; client = client; turns = 0 }) }
+        ensures given { IfOk result (λ p. known p ≡ record (known pass.old) { owned = only client (known pass.old).owned; client = client; turns = 0; shares = (known pass.old).shares / 2 }) }
         ensures owner { IfOk result (λ p. OwnsSlot (known p).owned client) }
         ensures others { (slot : ℕ) → slot ≢ client → OwnsSlot (known pass.old).owned slot → OwnsSlot (known pass.new).owned slot }
-        ensures kept { OnOk result (known pass.new ≡ record (known pass.old) { owned = without client (known pass.old).owned }) }
+        ensures kept { OnOk result (known pass.new ≡ record (known pass.old) { owned = without client (known pass.old).owned; shares = (known pass.old).shares - (known pass.old).shares / 2 }) }
         ensures err { OnErr result (known pass.new ≡ known pass.old) }
         ensures pass { IsPassOf T.Chronicle self.now pass.new }
     {
@@ -216,6 +217,7 @@ impl<T: Chronicle> Turn<T> {
     }
 
     /// Takes in another pass: this one has then seen the longer of both histories, which the other begins, and owns the parts of both.
+    /// Whom either has seen stopped, and whose part the other owns, the other knew to have stopped.
     pub fn meet(&self, pass: &mut Pass<T>, other: Pass<T>)
         requires pass { IsPassOf T.Chronicle self.now pass.old }
         requires away { (known pass.old).has_turn ≡ false }
@@ -226,7 +228,9 @@ impl<T: Chronicle> Turn<T> {
         ensures others { IsPrefix (seen T.Chronicle other) (seen T.Chronicle pass.new) }
         ensures keeps { (slot : ℕ) → OwnsSlot (known pass.old).owned slot → OwnsSlot (known pass.new).owned slot }
         ensures takes_over { (slot : ℕ) → OwnsSlot (known other).owned slot → OwnsSlot (known pass.new).owned slot }
-        ensures known { known pass.new ≡ record (known pass.old) { seen = (known pass.new).seen; owned = (known pass.old).owned ++ (known other).owned; gone = (known pass.old).gone ++ (known other).gone; stopped = (known pass.old).stopped ++ (known other).stopped } }
+        ensures known { known pass.new ≡ record (known pass.old) { seen = (known pass.new).seen; owned = (known pass.old).owned ++ (known other).owned; gone = (known pass.old).gone ++ (known other).gone; stopped = (known pass.old).stopped ++ (known other).stopped; shares = (known pass.old).shares + (known other).shares } }
+        ensures told { (client : ℕ) → OwnsSlot (known pass.old).owned client → Contains (known other).stopped client → Contains (known pass.old).stopped client }
+        ensures tells { (client : ℕ) → OwnsSlot (known other).owned client → Contains (known pass.old).stopped client → Contains (known other).stopped client }
         ensures pass { IsPassOf T.Chronicle self.now pass.new }
     {
         let Pass {
@@ -268,6 +272,7 @@ impl<T: Chronicle> Turn<T> {
 
     /// Ends the lock. Where every ticket that was drawn is served as it ends, it gives the value that lies in the slot, and that is never so while the pass has the turn.
     /// Else it answers how many tickets were drawn and served, and a value that lies in the slot is dropped. It waits for nobody.
+    /// A pass that has met all others, and is not inside, ends the lock with the value for certain.
     pub fn close(self, pass: Pass<T>) -> Result<T, TurnOut>
         requires { IsPassOf T.Chronicle self pass }
         ensures base { IfOk result (λ value. T.base value ≡ base_of T.Chronicle self) }
@@ -275,6 +280,7 @@ impl<T: Chronicle> Turn<T> {
         ensures served { IfOk result (λ value. EndsServed T.Chronicle self pass value) }
         ensures away { IfOk result (λ _. (known pass).has_turn ≡ false) }
         ensures out { IfErr result (λ e. EndsOut T.Chronicle self pass e.ticket e.serving) }
+        ensures sole { HasMetAll pass → (known pass).has_turn ≡ false → IsOk result }
     {
         let Turn { table, .. } = self;
         let Pass { place, .. } = pass;

@@ -1,4 +1,3 @@
-use Rattle.std.proofs.Common.{◌≡◌}
 use Rattle.rdb_turn.proofs.Passing.{settled_first, settled_second}
 use Rattle.rdb_turn.proofs.steps.settle.Goals as goal
 

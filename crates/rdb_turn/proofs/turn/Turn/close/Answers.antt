@@ -1,6 +1,6 @@
 use Rattle.std.proofs.Common.{◌≡◌, refl, sym, ◌∙◌, subst, ap, Option}
 use Rattle.std.specs.Option.{IsSome}
-use Rattle.rdb_turn.proofs.Passing.{ends, ends_out, ends_served}
+use Rattle.rdb_turn.proofs.Passing.{away_at, ends, ends_served, ends_sole}
 use Rattle.rdb_turn.proofs.turn.Turn.close.Goals as goal
 use Rattle.rdb_turn.proofs.turn.Turn.close.Goals.{Else-ticket-serving}
 
@@ -26,3 +26,7 @@ returns-clause-served g c = (ends_served g.T.Chronicle c.args.self c.args.pass _
 
 pub returns-clause-away : goal.returns-clause-away
 returns-clause-away g c = (ends_served g.T.Chronicle c.args.self c.args.pass _ _ _ _ _ _ c.close_with-closed.ensures.values.2 c.word-ticket.ensures c.word-serving.ensures c.if-ticket-serving.false c.take-value.ensures.value c.unwrap.ensures).1
+
+pub returns-then-ticket-serving-clause-sole : goal.returns-then-ticket-serving-clause-sole
+returns-then-ticket-serving-clause-sole g c = λ all away.
+    absurd (ends_sole g.T.Chronicle c.args.self c.args.pass _ _ _ _ c.close_with-closed.ensures.values.2 c.word-ticket.ensures c.word-serving.ensures c.if-ticket-serving.true all (away_at _ _ _ c.requires.fits away).0)

@@ -3,6 +3,7 @@ use Rattle.rdb_turn.specs.Rule.{is_inside, OwnsSlot}
 use Rattle.rdb_turn.specs.Steps.{Mine}
 use Rattle.rdb_turn.specs.Passes.{history_of, Known}
 use Rattle.rdb_turn.proofs.Parts.{owns_first, owns_second}
+use Rattle.rdb_turn.proofs.Agreeing.{all_agreed, open_first, open_second, stopped_both}
 use Rattle.rdb_turn.proofs.Passing.{met, fits_as}
 use Rattle.rdb_turn.proofs.turn.Turn.meet.Goals as goal
 
@@ -38,7 +39,27 @@ returns-clause-known g c =
     let told = met g.T.Chronicle c.args.pass.now.place.me.0 c.args.other.place.me.0 k.latest l.latest c.args.pass.now.place.me.1 _ c.settle-pass.new.place.me c.settle-pass.result k.seen_last l.seen_last c.unite.ensures.both c.settle-pass.ensures.settled in
     let m = c.settle-pass.new.place.me in
     let seen = m.0.seen in
-    ap {B = Known g.row.T.Denot} (λ (n : Mine g.row.T.Denot). record { seen = seen; owned = n.0.owned; gone = n.0.gone; stopped = n.0.stopped; client = c.args.pass.now.client; has_turn = is_inside n.0.stand; turns = c.args.pass.now.turns }) told.2
+    let v = c.args.pass.now.place.me.0 in
+    let w = c.args.other.place.me.0 in
+    ap {B = Known g.row.T.Denot} (λ (n : Mine g.row.T.Denot). record { seen = seen; owned = n.0.owned; gone = n.0.gone; stopped = n.0.stopped; client = c.args.pass.now.client; has_turn = is_inside n.0.stand; turns = c.args.pass.now.turns; shares = n.0.shares }) told.2
+    ∙ ap {B = Known g.row.T.Denot} (λ (st : List ℕ). record { seen = seen; owned = v.owned ++ w.owned; gone = v.gone ++ w.gone; stopped = st; client = c.args.pass.now.client; has_turn = is_inside v.stand; turns = c.args.pass.now.turns; shares = v.shares + w.shares })
+    (stopped_both v w (open_first v w told.6) (open_second v w told.6))
+
+pub returns-clause-told : goal.returns-clause-told
+returns-clause-told g c =
+    let k = c.requires.pass in let l = c.requires.other in
+    let told = met g.T.Chronicle c.args.pass.now.place.me.0 c.args.other.place.me.0 k.latest l.latest c.args.pass.now.place.me.1 _ c.settle-pass.new.place.me c.settle-pass.result k.seen_last l.seen_last c.unite.ensures.both c.settle-pass.ensures.settled in
+    let v = c.args.pass.now.place.me.0 in
+    let w = c.args.other.place.me.0 in
+    all_agreed v.owned v.stopped w.stopped (open_first v w told.6)
+
+pub returns-clause-tells : goal.returns-clause-tells
+returns-clause-tells g c =
+    let k = c.requires.pass in let l = c.requires.other in
+    let told = met g.T.Chronicle c.args.pass.now.place.me.0 c.args.other.place.me.0 k.latest l.latest c.args.pass.now.place.me.1 _ c.settle-pass.new.place.me c.settle-pass.result k.seen_last l.seen_last c.unite.ensures.both c.settle-pass.ensures.settled in
+    let v = c.args.pass.now.place.me.0 in
+    let w = c.args.other.place.me.0 in
+    all_agreed w.owned w.stopped v.stopped (open_second v w told.6)
 
 pub returns-clause-pass : goal.returns-clause-pass
 returns-clause-pass g c =
