@@ -1,3 +1,5 @@
 pub mod Trivia
 pub mod Reading
 pub mod OneAnswer
+pub mod Spellings
+pub mod CanonicalTexts

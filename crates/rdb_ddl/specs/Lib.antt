@@ -5,3 +5,5 @@ pub mod Grammar
 pub mod Read
 pub mod Cause
 pub mod Canonical
+pub mod SchemaParts
+pub mod Spelled
