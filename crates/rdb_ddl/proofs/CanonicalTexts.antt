@@ -1,5 +1,5 @@
 -- The parts of a canonical text: each production of it, before what it is read with.
-use Rattle.std.proofs.Common.{◌≡◌, ℕ, zero, suc, ◌+◌, ◌<◌, ◌≤◌, Bool, true, false, cond, List, [], ◌∷◌, ◌++◌, length, Option, Some, None, Result, Ok, Err, refl, sym, ap, ◌∙◌, arith, subst, append_assoc, ◌⊎◌, inl, inr}
+use Rattle.std.proofs.Common.{◌≡◌, ℕ, zero, suc, ◌+◌, ◌<◌, ◌≤◌, Bool, true, false, cond, List, [], ◌∷◌, ◌++◌, length, Option, Some, None, Ok, refl, sym, ap, ◌∙◌, arith, subst, append_assoc, inl, inr}
 use Rattle.std.specs.Prelude.{codes, map}
 use Rattle.std.specs.List.{flat_map, All}
 use Rattle.std.specs.Fmt.{decimal}
@@ -36,7 +36,7 @@ use Rattle.rdb_ddl.specs.declared.expect.Expect.{Expect}
 use Rattle.rdb_ddl.specs.declared.expect.Expect.TheVariants.{Declare, Database, DatabaseName, DatabaseEnd, Declaration, DeclarationEnd, StructName, ClassName, Open, StructMember, ClassMember, FieldName, Semicolon, RectOpen, RectType, RectClose, VectorOpen, VectorType, VectorClose, SizeOrEnd, SizeNumber, SizeClose, IndexKindWord, IndexOpen, KeyName, KeyNext, IndexName, EventOpen, EventWord, UpdateEnd, EventClose, EventName}
 use Rattle.rdb_ddl.specs.Keyword.{type_word, member_word, head_word, keyword_of}
 use Rattle.rdb_ddl.specs.Token.{Lexeme, Word, Name, Number, Mark, begins_name, is_name_byte, lexeme_at, after_passing, token_at}
-use Rattle.rdb_ddl.specs.Grammar.{Parsed, plain_word, kind_word, event_word, after, after_word, after_type, after_plain, after_keyword, after_member_word, after_name, after_mark, after_number, part_of, word_part, keyword_part, name_part, member_part, size_at, size_in, parsed_with, reads_on, reads, grammar, may_end}
+use Rattle.rdb_ddl.specs.Grammar.{Parsed, plain_word, kind_word, event_word, after, after_word, after_type, after_plain, after_keyword, after_member_word, after_name, after_mark, after_number, part_of, word_part, keyword_part, name_part, member_part, size_at, size_in, parsed_with, reads_on, reads, may_end}
 use Rattle.rdb_ddl.specs.Canonical.{group_name, field_name, number_text, plain_text, type_text, field_text, size_text, autoid_text, kind_text, unique_text, named_after, key_text, index_text, event_kind_text, event_text, group_text, class_text, canonical}
 use Rattle.rdb_ddl.specs.SchemaParts.{plain_part, type_part, field_parts, autoid_parts, key_part, index_parts, kind_parts, event_parts, group_parts, body_parts, class_parts, parts_of}
 use Rattle.rdb_ddl.specs.Spelled.{IsWord, IsName, IsWidth, IsPlainSpelled, IsTypeSpelled, IsMemberTypeSpelled, IsFieldSpelled, IsMemberSpelled, IsSizeSpelled, IsIndexSpelled, IsKindSpelled, IsEventSpelled, IsGroupSpelled, IsClassSpelled, IsSpelled, HasParts}
@@ -61,8 +61,8 @@ silent expect next text word rest syntax begins allowed none more = record { who
   whole (suc tokens) enough =
       let further = more.whole tokens (omega (arith, begins.shorter)) in
       let at_lexeme : reads (suc tokens) expect text ≡ parsed_with (part_of expect word rest) begins.left (reads tokens next rest) =
-          ap (λ (lexeme : Lexeme). reads_on expect lexeme (after expect lexeme.word) (λ next rest. reads tokens next rest)) begins.is
-          ∙ ap (λ (goes_on : Option Expect). reads_on expect (record { word = word; left = begins.left; rest = rest }) goes_on (λ next rest. reads tokens next rest)) allowed in
+      ap (λ (lexeme : Lexeme). reads_on expect lexeme (after expect lexeme.word) (λ next rest. reads tokens next rest)) begins.is
+      ∙ ap (λ (goes_on : Option Expect). reads_on expect (record { word = word; left = begins.left; rest = rest }) goes_on (λ next rest. reads tokens next rest)) allowed in
       record {
         parsed = further.parsed;
         parts = at_lexeme ∙ ap (λ (part : Option Part). parsed_with part begins.left (reads tokens next rest)) none ∙ ap (parsed_with None begins.left) further.parts;
@@ -78,8 +78,8 @@ spoken expect next text word rest part syntax begins allowed some more = record 
   whole (suc tokens) enough =
       let further = more.whole tokens (omega (arith, begins.shorter)) in
       let at_lexeme : reads (suc tokens) expect text ≡ parsed_with (part_of expect word rest) begins.left (reads tokens next rest) =
-          ap (λ (lexeme : Lexeme). reads_on expect lexeme (after expect lexeme.word) (λ next rest. reads tokens next rest)) begins.is
-          ∙ ap (λ (goes_on : Option Expect). reads_on expect (record { word = word; left = begins.left; rest = rest }) goes_on (λ next rest. reads tokens next rest)) allowed in
+      ap (λ (lexeme : Lexeme). reads_on expect lexeme (after expect lexeme.word) (λ next rest. reads tokens next rest)) begins.is
+      ∙ ap (λ (goes_on : Option Expect). reads_on expect (record { word = word; left = begins.left; rest = rest }) goes_on (λ next rest. reads tokens next rest)) allowed in
       record {
         parsed = record { syntax = part ∷ further.parsed.syntax; lefts = begins.left ∷ further.parsed.lefts };
         parts = at_lexeme ∙ ap (λ (part : Option Part). parsed_with part begins.left (reads tokens next rest)) some ∙ ap (parsed_with (Some part) begins.left) further.parts;
@@ -166,17 +166,22 @@ number_reads holder first bytes signed byte rest syntax width stop more = by_wid
   one : (s : Bool) → ReadsAs (starts holder first) ((cond s (codes "int") (codes "uint") ++ 49 ∷ []) ++ byte ∷ rest) (parts.Plain (plains.Num 1 s) (is_vector holder) ∷ syntax)
   one false = type_begins holder first words.Uint1 (plains.Num 1 false) (codes "uint1") byte rest syntax (spelled_by _ refl refl (omega arith)) refl stop refl refl (λ size. refl) more
   one true = type_begins holder first words.Int1 (plains.Num 1 true) (codes "int1") byte rest syntax (spelled_by _ refl refl (omega arith)) refl stop refl refl (λ size. refl) more
+
   two : (s : Bool) → ReadsAs (starts holder first) ((cond s (codes "int") (codes "uint") ++ 50 ∷ []) ++ byte ∷ rest) (parts.Plain (plains.Num 2 s) (is_vector holder) ∷ syntax)
   two false = type_begins holder first words.Uint2 (plains.Num 2 false) (codes "uint2") byte rest syntax (spelled_by _ refl refl (omega arith)) refl stop refl refl (λ size. refl) more
   two true = type_begins holder first words.Int2 (plains.Num 2 true) (codes "int2") byte rest syntax (spelled_by _ refl refl (omega arith)) refl stop refl refl (λ size. refl) more
+
   four : (s : Bool) → ReadsAs (starts holder first) ((cond s (codes "int") (codes "uint") ++ 52 ∷ []) ++ byte ∷ rest) (parts.Plain (plains.Num 4 s) (is_vector holder) ∷ syntax)
   four false = type_begins holder first words.Uint4 (plains.Num 4 false) (codes "uint4") byte rest syntax (spelled_by _ refl refl (omega arith)) refl stop refl refl (λ size. refl) more
   four true = type_begins holder first words.Int4 (plains.Num 4 true) (codes "int4") byte rest syntax (spelled_by _ refl refl (omega arith)) refl stop refl refl (λ size. refl) more
+
   eight : (s : Bool) → ReadsAs (starts holder first) ((cond s (codes "int") (codes "uint") ++ 56 ∷ []) ++ byte ∷ rest) (parts.Plain (plains.Num 8 s) (is_vector holder) ∷ syntax)
   eight false = type_begins holder first words.Uint8 (plains.Num 8 false) (codes "uint8") byte rest syntax (spelled_by _ refl refl (omega arith)) refl stop refl refl (λ size. refl) more
   eight true = type_begins holder first words.Int8 (plains.Num 8 true) (codes "int8") byte rest syntax (spelled_by _ refl refl (omega arith)) refl stop refl refl (λ size. refl) more
+
   as_digits : (n : ℕ) → n < 10 → ReadsAs (starts holder first) ((cond signed (codes "int") (codes "uint") ++ (48 + n) ∷ []) ++ byte ∷ rest) (parts.Plain (plains.Num n signed) (is_vector holder) ∷ syntax) → ReadsNumber holder first signed byte rest syntax n
   as_digits n small read = subst (λ (text : List ℕ). ReadsAs (starts holder first) (text ++ byte ∷ rest) (parts.Plain (plains.Num n signed) (is_vector holder) ∷ syntax)) (sym (digit_text n signed small)) read
+
   by_width : IsWidth bytes → ReadsNumber holder first signed byte rest syntax bytes
   by_width (inl e) = subst (ReadsNumber holder first signed byte rest syntax) (sym e) (as_digits 1 (omega arith) (one signed))
   by_width (inr (inl e)) = subst (ReadsNumber holder first signed byte rest syntax) (sym e) (as_digits 2 (omega arith) (two signed))
@@ -193,9 +198,9 @@ box_reads : (holder : Holder) (first : Bool) (byte : ℕ) (rest : List ℕ) (syn
 unfolding type_word member_word head_word plain_word after_mark after_keyword keyword_part
 box_reads holder first byte rest syntax more =
     type_begins holder first words.Rect plains.Box4 (codes "rect") 60 (codes "int4>" ++ byte ∷ rest) syntax (spelled_by _ refl refl (omega arith)) refl refl refl refl (λ size. refl)
-      (mark (RectOpen holder) (RectType holder) signs.Less (codes "int4>" ++ byte ∷ rest) syntax refl
-        (keyword (RectType holder) (RectClose holder) (codes "int4") words.Int4 62 (byte ∷ rest) syntax (spelled_by _ refl refl (omega arith)) refl refl refl (λ size. refl)
-          (mark (RectClose holder) (after_type holder) signs.Greater (byte ∷ rest) syntax refl more)))
+    (mark (RectOpen holder) (RectType holder) signs.Less (codes "int4>" ++ byte ∷ rest) syntax refl
+    (keyword (RectType holder) (RectClose holder) (codes "int4") words.Int4 62 (byte ∷ rest) syntax (spelled_by _ refl refl (omega arith)) refl refl refl (λ size. refl)
+    (mark (RectClose holder) (after_type holder) signs.Greater (byte ∷ rest) syntax refl more)))
 
 -- the type of a vector's elements
 element_reads : (groups : List Group) (plain : Plain) (byte : ℕ) (rest : List ℕ) (syntax : List Part) → IsPlainSpelled groups plain → is_name_byte byte ≡ false
@@ -211,9 +216,9 @@ vector_reads : (first : Bool) (groups : List Group) (plain : Plain) (byte : ℕ)
 unfolding type_word member_word head_word plain_word kind_word after_mark after_keyword keyword_part
 vector_reads first groups plain byte rest syntax spelled more =
     let whole = keyword (ClassMember first) VectorOpen (codes "vector") words.Vector 60 (plain_text groups plain ++ 62 ∷ byte ∷ rest) (plain_part groups plain true ∷ syntax) (spelled_by _ refl refl (omega arith)) refl refl refl (λ size. refl)
-      (mark VectorOpen VectorType signs.Less (plain_text groups plain ++ 62 ∷ byte ∷ rest) (plain_part groups plain true ∷ syntax) refl
-        (element_reads groups plain 62 (byte ∷ rest) syntax spelled refl
-          (mark VectorClose (FieldName owners.Class) signs.Greater (byte ∷ rest) syntax refl more))) in
+    (mark VectorOpen VectorType signs.Less (plain_text groups plain ++ 62 ∷ byte ∷ rest) (plain_part groups plain true ∷ syntax) refl
+    (element_reads groups plain 62 (byte ∷ rest) syntax spelled refl
+    (mark VectorClose (FieldName owners.Class) signs.Greater (byte ∷ rest) syntax refl more))) in
     subst (λ (text : List ℕ). ReadsAs (ClassMember first) text (plain_part groups plain true ∷ syntax)) (ap (λ (text : List ℕ). codes "vector<" ++ text) (sym (append_assoc (plain_text groups plain) (codes ">") (byte ∷ rest)))) whole
 
 -- the type of a class's field
@@ -256,11 +261,11 @@ unfolding after_name name_part after_mark
 field_reads first groups field rest syntax spelled more =
     let line = 32 ∷ (field.name ++ 59 ∷ 10 ∷ rest) in
     let ends : ReadsAs (FieldName owners.Class) line (parts.Member field.name ∷ syntax) =
-      blank (FieldName owners.Class) (field.name ++ 59 ∷ 10 ∷ rest) (parts.Member field.name ∷ syntax)
-        (name_of (FieldName owners.Class) (Semicolon owners.Class) field.name 59 (10 ∷ rest) (parts.Member field.name) syntax spelled.name refl refl refl
-          (mark (Semicolon owners.Class) (ClassMember false) signs.Semicolon (10 ∷ rest) syntax refl (feed (ClassMember false) rest syntax more))) in
+    blank (FieldName owners.Class) (field.name ++ 59 ∷ 10 ∷ rest) (parts.Member field.name ∷ syntax)
+    (name_of (FieldName owners.Class) (Semicolon owners.Class) field.name 59 (10 ∷ rest) (parts.Member field.name) syntax spelled.name refl refl refl
+    (mark (Semicolon owners.Class) (ClassMember false) signs.Semicolon (10 ∷ rest) syntax refl (feed (ClassMember false) rest syntax more))) in
     let whole = blank (ClassMember first) (32 ∷ (type_text groups field.ty ++ line)) (field_parts groups field ++ syntax) (blank (ClassMember first) (type_text groups field.ty ++ line) (field_parts groups field ++ syntax)
-      (type_reads first groups field.ty 32 (field.name ++ 59 ∷ 10 ∷ rest) (parts.Member field.name ∷ syntax) spelled.type refl ends)) in
+    (type_reads first groups field.ty 32 (field.name ++ 59 ∷ 10 ∷ rest) (parts.Member field.name ∷ syntax) spelled.type refl ends)) in
     subst (λ (text : List ℕ). ReadsAs (ClassMember first) text (field_parts groups field ++ syntax)) (sym (field_line groups field rest)) whole
 
 member_reads : (first : Bool) (field : Field) (rest : List ℕ) (syntax : List Part) → IsMemberSpelled field → ReadsAs (StructMember false) rest syntax → ReadsAs (StructMember first) (field_text [] field ++ rest) (field_parts [] field ++ syntax)
@@ -268,11 +273,11 @@ unfolding after_name name_part after_mark
 member_reads first field rest syntax spelled more =
     let line = 32 ∷ (field.name ++ 59 ∷ 10 ∷ rest) in
     let ends : ReadsAs (FieldName owners.Struct) line (parts.Member field.name ∷ syntax) =
-      blank (FieldName owners.Struct) (field.name ++ 59 ∷ 10 ∷ rest) (parts.Member field.name ∷ syntax)
-        (name_of (FieldName owners.Struct) (Semicolon owners.Struct) field.name 59 (10 ∷ rest) (parts.Member field.name) syntax spelled.name refl refl refl
-          (mark (Semicolon owners.Struct) (StructMember false) signs.Semicolon (10 ∷ rest) syntax refl (feed (StructMember false) rest syntax more))) in
+    blank (FieldName owners.Struct) (field.name ++ 59 ∷ 10 ∷ rest) (parts.Member field.name ∷ syntax)
+    (name_of (FieldName owners.Struct) (Semicolon owners.Struct) field.name 59 (10 ∷ rest) (parts.Member field.name) syntax spelled.name refl refl refl
+    (mark (Semicolon owners.Struct) (StructMember false) signs.Semicolon (10 ∷ rest) syntax refl (feed (StructMember false) rest syntax more))) in
     let whole = blank (StructMember first) (32 ∷ (type_text [] field.ty ++ line)) (field_parts [] field ++ syntax) (blank (StructMember first) (type_text [] field.ty ++ line) (field_parts [] field ++ syntax)
-      (member_type_reads first field.ty 32 (field.name ++ 59 ∷ 10 ∷ rest) (parts.Member field.name ∷ syntax) spelled.type refl ends)) in
+    (member_type_reads first field.ty 32 (field.name ++ 59 ∷ 10 ∷ rest) (parts.Member field.name ∷ syntax) spelled.type refl ends)) in
     subst (λ (text : List ℕ). ReadsAs (StructMember first) text (field_parts [] field ++ syntax)) (sym (field_line [] field rest)) whole
 
 fields_read : (groups : List Group) (fields : List Field) (rest : List ℕ) (syntax : List Part) → 0 < length fields → All (IsFieldSpelled groups) fields → ReadsAs (ClassMember false) rest syntax
@@ -313,8 +318,8 @@ before_size expect word None rest part syntax reads_word spelled more =
 before_size expect word (Some size) rest part syntax reads_word spelled more =
     let tail = decimal size ++ 93 ∷ 59 ∷ 10 ∷ rest in
     let number : ReadsAs SizeNumber tail syntax =
-      silent SizeNumber SizeClose tail (Number size) (93 ∷ 59 ∷ 10 ∷ rest) syntax (begins_number size 93 (59 ∷ 10 ∷ rest) spelled refl) refl refl
-        (mark SizeClose (Semicolon owners.Class) signs.CloseBracket (59 ∷ 10 ∷ rest) syntax refl (mark (Semicolon owners.Class) (ClassMember false) signs.Semicolon (10 ∷ rest) syntax refl (feed (ClassMember false) rest syntax more))) in
+    silent SizeNumber SizeClose tail (Number size) (93 ∷ 59 ∷ 10 ∷ rest) syntax (begins_number size 93 (59 ∷ 10 ∷ rest) spelled refl) refl refl
+    (mark SizeClose (Semicolon owners.Class) signs.CloseBracket (59 ∷ 10 ∷ rest) syntax refl (mark (Semicolon owners.Class) (ClassMember false) signs.Semicolon (10 ∷ rest) syntax refl (feed (ClassMember false) rest syntax more))) in
     let whole = reads_word 91 tail refl (size_some size (59 ∷ 10 ∷ rest) spelled) (mark SizeOrEnd SizeNumber signs.OpenBracket tail syntax refl number) in
     subst (λ (text : List ℕ). ReadsAs expect (word ++ 91 ∷ text) (part ∷ syntax)) (sym (append_assoc (decimal size) (codes "]") (59 ∷ 10 ∷ rest))) whole
 
@@ -327,11 +332,11 @@ unfolding autoid_text type_word member_word head_word after_keyword keyword_part
 autoid_reads false size rest syntax spelled more = more
 autoid_reads true size rest syntax spelled more =
     let word = before_size (ClassMember false) (codes "autoid") size rest (parts.Autoid size) syntax
-      (λ byte tail stop here further. telling (ClassMember false) SizeOrEnd (codes "autoid") words.Autoid byte tail (parts.Autoid size) syntax (spelled_by _ refl refl (omega arith)) refl stop refl (ap (λ (size : Option ℕ). Some (parts.Autoid size)) here) further)
-      spelled more in
+    (λ byte tail stop here further. telling (ClassMember false) SizeOrEnd (codes "autoid") words.Autoid byte tail (parts.Autoid size) syntax (spelled_by _ refl refl (omega arith)) refl stop refl (ap (λ (size : Option ℕ). Some (parts.Autoid size)) here) further)
+    spelled more in
     let text = codes "autoid" ++ (size_text size ++ 59 ∷ 10 ∷ rest) in
     subst (λ (text : List ℕ). ReadsAs (ClassMember false) text (parts.Autoid size ∷ syntax)) (sym (autoid_line size rest))
-      (blank (ClassMember false) (32 ∷ text) (parts.Autoid size ∷ syntax) (blank (ClassMember false) text (parts.Autoid size ∷ syntax) word))
+    (blank (ClassMember false) (32 ∷ text) (parts.Autoid size ∷ syntax) (blank (ClassMember false) text (parts.Autoid size ∷ syntax) word))
 
 -- ---- indexes
 
@@ -343,7 +348,7 @@ kind_reads false kinds.Rtree rest syntax more = telling (ClassMember false) Inde
 kind_reads false kinds.Patricia rest syntax more = telling (ClassMember false) IndexOpen (codes "patricia") words.Patricia 60 rest (parts.Index false kinds.Patricia) syntax (spelled_by _ refl refl (omega arith)) refl refl refl refl more
 kind_reads true kind rest syntax more =
     keyword (ClassMember false) IndexKindWord (codes "unique") words.Unique 32 (kind_text kind ++ 60 ∷ rest) (parts.Index true kind ∷ syntax) (spelled_by _ refl refl (omega arith)) refl refl refl (λ size. refl)
-      (blank IndexKindWord (kind_text kind ++ 60 ∷ rest) (parts.Index true kind ∷ syntax) (by_kind kind))
+    (blank IndexKindWord (kind_text kind ++ 60 ∷ rest) (parts.Index true kind ∷ syntax) (by_kind kind))
   where
     by_kind : (kind : IndexKind) → ReadsAs IndexKindWord (kind_text kind ++ 60 ∷ rest) (parts.Index true kind ∷ syntax)
     by_kind kinds.Hash = telling IndexKindWord IndexOpen (codes "hash") words.Hash 60 rest (parts.Index true kinds.Hash) syntax (spelled_by _ refl refl (omega arith)) refl refl refl refl more
@@ -389,14 +394,14 @@ index_reads fields index rest syntax spelled more =
     let ending = parts.IndexName index.name index.estimate in
     let line = index.name ++ (size_text index.estimate ++ 59 ∷ 10 ∷ rest) in
     let named : ReadsAs IndexName (32 ∷ line) (ending ∷ syntax) = blank IndexName line (ending ∷ syntax) (before_size IndexName index.name index.estimate rest ending syntax
-      (λ byte tail stop here further. name_of IndexName SizeOrEnd index.name byte tail ending syntax spelled.name stop refl (ap (λ (size : Option ℕ). Some (parts.IndexName index.name size)) here) further)
-      spelled.size more) in
+    (λ byte tail stop here further. name_of IndexName SizeOrEnd index.name byte tail ending syntax spelled.name stop refl (ap (λ (size : Option ℕ). Some (parts.IndexName index.name size)) here) further)
+    spelled.size more) in
     let keyed = key_reads fields index.key (32 ∷ line) (ending ∷ syntax) spelled.some spelled.key named in
     let text = unique_text index.unique ++ (kind_text index.kind ++ 60 ∷ (key_text fields index.key ++ 62 ∷ 32 ∷ line)) in
     let syntax_now = parts.Index index.unique index.kind ∷ (map (key_part fields) index.key ++ ending ∷ syntax) in
     let opened : ReadsAs (ClassMember false) (32 ∷ 32 ∷ text) syntax_now = blank (ClassMember false) (32 ∷ text) syntax_now (blank (ClassMember false) text syntax_now (kind_reads index.unique index.kind (key_text fields index.key ++ 62 ∷ 32 ∷ line) (map (key_part fields) index.key ++ ending ∷ syntax) keyed)) in
     subst (λ (text : List ℕ). ReadsAs (ClassMember false) text (index_parts fields index ++ syntax)) (sym (index_line fields index rest))
-      (subst (λ (rest_parts : List Part). ReadsAs (ClassMember false) (32 ∷ 32 ∷ text) (parts.Index index.unique index.kind ∷ rest_parts)) (sym (append_assoc (map (key_part fields) index.key) (ending ∷ []) syntax)) opened)
+    (subst (λ (rest_parts : List Part). ReadsAs (ClassMember false) (32 ∷ 32 ∷ text) (parts.Index index.unique index.kind ∷ rest_parts)) (sym (append_assoc (map (key_part fields) index.key) (ending ∷ []) syntax)) opened)
 
 -- ---- events
 
@@ -410,9 +415,9 @@ event_kind_reads fields events.Update rest syntax spelled more =
     telling EventWord UpdateEnd (codes "update") words.Update 62 rest (parts.Event events.Update) syntax (spelled_by _ refl refl (omega arith)) refl refl refl refl (mark UpdateEnd EventName signs.Greater rest syntax refl more)
 event_kind_reads fields (events.UpdateField place) rest syntax spelled more =
     telling EventWord UpdateEnd (codes "update") words.Update 32 (field_name fields place ++ 62 ∷ rest) (parts.Event events.Update) (parts.Update (field_name fields place) ∷ syntax) (spelled_by _ refl refl (omega arith)) refl refl refl refl
-      (blank UpdateEnd (field_name fields place ++ 62 ∷ rest) (parts.Update (field_name fields place) ∷ syntax)
-        (name_of UpdateEnd EventClose (field_name fields place) 62 rest (parts.Update (field_name fields place)) syntax spelled refl refl refl
-          (mark EventClose EventName signs.Greater rest syntax refl more)))
+    (blank UpdateEnd (field_name fields place ++ 62 ∷ rest) (parts.Update (field_name fields place) ∷ syntax)
+    (name_of UpdateEnd EventClose (field_name fields place) 62 rest (parts.Update (field_name fields place)) syntax spelled refl refl refl
+    (mark EventClose EventName signs.Greater rest syntax refl more)))
 
 event_line : (fields : List Field) (event : Event) (rest : List ℕ) → event_text fields event ++ rest ≡ 32 ∷ 32 ∷ (codes "event" ++ 60 ∷ (event_kind_text fields event.kind ++ 62 ∷ 32 ∷ (event.name ++ 59 ∷ 10 ∷ rest)))
 unfolding event_text
@@ -424,14 +429,14 @@ event_reads fields event rest syntax spelled more =
     let line = event.name ++ 59 ∷ 10 ∷ rest in
     let ending = parts.EventName event.name in
     let named : ReadsAs EventName (32 ∷ line) (ending ∷ syntax) = blank EventName line (ending ∷ syntax)
-      (name_of EventName (Semicolon owners.Class) event.name 59 (10 ∷ rest) ending syntax spelled.name refl refl refl
-        (mark (Semicolon owners.Class) (ClassMember false) signs.Semicolon (10 ∷ rest) syntax refl (feed (ClassMember false) rest syntax more))) in
+    (name_of EventName (Semicolon owners.Class) event.name 59 (10 ∷ rest) ending syntax spelled.name refl refl refl
+    (mark (Semicolon owners.Class) (ClassMember false) signs.Semicolon (10 ∷ rest) syntax refl (feed (ClassMember false) rest syntax more))) in
     let inside = event_kind_text fields event.kind ++ 62 ∷ 32 ∷ line in
     let syntax_now = kind_parts fields event.kind ++ ending ∷ syntax in
     let opened : ReadsAs (ClassMember false) (codes "event" ++ 60 ∷ inside) syntax_now = keyword (ClassMember false) EventOpen (codes "event") words.Event 60 inside syntax_now (spelled_by _ refl refl (omega arith)) refl refl refl (λ size. refl)
-      (mark EventOpen EventWord signs.Less inside syntax_now refl (event_kind_reads fields event.kind (32 ∷ line) (ending ∷ syntax) spelled.kind named)) in
+    (mark EventOpen EventWord signs.Less inside syntax_now refl (event_kind_reads fields event.kind (32 ∷ line) (ending ∷ syntax) spelled.kind named)) in
     let whole : ReadsAs (ClassMember false) (event_text fields event ++ rest) syntax_now = subst (λ (text : List ℕ). ReadsAs (ClassMember false) text syntax_now) (sym (event_line fields event rest))
-      (blank (ClassMember false) (32 ∷ (codes "event" ++ 60 ∷ inside)) syntax_now (blank (ClassMember false) (codes "event" ++ 60 ∷ inside) syntax_now opened)) in
+    (blank (ClassMember false) (32 ∷ (codes "event" ++ 60 ∷ inside)) syntax_now (blank (ClassMember false) (codes "event" ++ 60 ∷ inside) syntax_now opened)) in
     subst (λ (syntax_now : List Part). ReadsAs (ClassMember false) (event_text fields event ++ rest) syntax_now) (sym (append_assoc (kind_parts fields event.kind) (ending ∷ []) syntax)) whole
 
 -- ---- structs, classes and schemas
@@ -446,13 +451,13 @@ group_reads group rest syntax spelled more =
     let inside = flat_map (field_text []) group.fields ++ 125 ∷ 59 ∷ 10 ∷ rest in
     let fields = flat_map (field_parts []) group.fields ++ syntax in
     let body : ReadsAs (StructMember true) inside fields = members_read group.fields (125 ∷ 59 ∷ 10 ∷ rest) syntax spelled.some spelled.fields
-      (mark (StructMember false) DeclarationEnd signs.CloseBrace (59 ∷ 10 ∷ rest) syntax refl (mark DeclarationEnd Declaration signs.Semicolon (10 ∷ rest) syntax refl (feed Declaration rest syntax more))) in
+    (mark (StructMember false) DeclarationEnd signs.CloseBrace (59 ∷ 10 ∷ rest) syntax refl (mark DeclarationEnd Declaration signs.Semicolon (10 ∷ rest) syntax refl (feed Declaration rest syntax more))) in
     let named : ReadsAs StructName (group.name ++ 32 ∷ 123 ∷ 10 ∷ inside) (parts.Struct group.name ∷ fields) = name_of StructName (Open owners.Struct) group.name 32 (123 ∷ 10 ∷ inside) (parts.Struct group.name) fields spelled.name refl refl refl
-      (blank (Open owners.Struct) (123 ∷ 10 ∷ inside) fields (mark (Open owners.Struct) (StructMember true) signs.OpenBrace (10 ∷ inside) fields refl (feed (StructMember true) inside fields body))) in
+    (blank (Open owners.Struct) (123 ∷ 10 ∷ inside) fields (mark (Open owners.Struct) (StructMember true) signs.OpenBrace (10 ∷ inside) fields refl (feed (StructMember true) inside fields body))) in
     subst (λ (text : List ℕ). ReadsAs Declaration text (group_parts group ++ syntax)) (sym (group_line group rest))
-      (feed Declaration (codes "struct" ++ 32 ∷ (group.name ++ 32 ∷ 123 ∷ 10 ∷ inside)) (parts.Struct group.name ∷ fields)
-        (keyword Declaration StructName (codes "struct") words.Struct 32 (group.name ++ 32 ∷ 123 ∷ 10 ∷ inside) (parts.Struct group.name ∷ fields) (spelled_by _ refl refl (omega arith)) refl refl refl (λ size. refl)
-          (blank StructName (group.name ++ 32 ∷ 123 ∷ 10 ∷ inside) (parts.Struct group.name ∷ fields) named)))
+    (feed Declaration (codes "struct" ++ 32 ∷ (group.name ++ 32 ∷ 123 ∷ 10 ∷ inside)) (parts.Struct group.name ∷ fields)
+    (keyword Declaration StructName (codes "struct") words.Struct 32 (group.name ++ 32 ∷ 123 ∷ 10 ∷ inside) (parts.Struct group.name ∷ fields) (spelled_by _ refl refl (omega arith)) refl refl refl (λ size. refl)
+    (blank StructName (group.name ++ 32 ∷ 123 ∷ 10 ∷ inside) (parts.Struct group.name ∷ fields) named)))
 
 class_line : (groups : List Group) (class : Class) (rest : List ℕ) → class_text groups class ++ rest
     ≡ 10 ∷ (codes "class" ++ 32 ∷ (class.name ++ 32 ∷ 123 ∷ 10 ∷ (flat_map (field_text groups) class.fields ++ (autoid_text class.autoid class.estimate ++ (flat_map (index_text class.fields) class.indexes ++ (flat_map (event_text class.fields) class.events ++ 125 ∷ 59 ∷ 10 ∷ rest))))))
@@ -474,11 +479,11 @@ class_reads groups class rest syntax spelled more =
     let body_now = body_parts groups class ++ syntax in
     let body : ReadsAs (ClassMember true) inside body_now = subst (λ (syntax : List Part). ReadsAs (ClassMember true) inside syntax) (sym (body_line groups class syntax)) with_fields in
     let named : ReadsAs ClassName (class.name ++ 32 ∷ 123 ∷ 10 ∷ inside) (parts.Class class.name ∷ body_now) = name_of ClassName (Open owners.Class) class.name 32 (123 ∷ 10 ∷ inside) (parts.Class class.name) body_now spelled.name refl refl refl
-      (blank (Open owners.Class) (123 ∷ 10 ∷ inside) body_now (mark (Open owners.Class) (ClassMember true) signs.OpenBrace (10 ∷ inside) body_now refl (feed (ClassMember true) inside body_now body))) in
+    (blank (Open owners.Class) (123 ∷ 10 ∷ inside) body_now (mark (Open owners.Class) (ClassMember true) signs.OpenBrace (10 ∷ inside) body_now refl (feed (ClassMember true) inside body_now body))) in
     subst (λ (text : List ℕ). ReadsAs Declaration text (class_parts groups class ++ syntax)) (sym (class_line groups class rest))
-      (feed Declaration (codes "class" ++ 32 ∷ (class.name ++ 32 ∷ 123 ∷ 10 ∷ inside)) (parts.Class class.name ∷ body_now)
-        (keyword Declaration ClassName (codes "class") words.Class 32 (class.name ++ 32 ∷ 123 ∷ 10 ∷ inside) (parts.Class class.name ∷ body_now) (spelled_by _ refl refl (omega arith)) refl refl refl (λ size. refl)
-          (blank ClassName (class.name ++ 32 ∷ 123 ∷ 10 ∷ inside) (parts.Class class.name ∷ body_now) named)))
+    (feed Declaration (codes "class" ++ 32 ∷ (class.name ++ 32 ∷ 123 ∷ 10 ∷ inside)) (parts.Class class.name ∷ body_now)
+    (keyword Declaration ClassName (codes "class") words.Class 32 (class.name ++ 32 ∷ 123 ∷ 10 ∷ inside) (parts.Class class.name ∷ body_now) (spelled_by _ refl refl (omega arith)) refl refl refl (λ size. refl)
+    (blank ClassName (class.name ++ 32 ∷ 123 ∷ 10 ∷ inside) (parts.Class class.name ∷ body_now) named)))
 
 ends : ReadsAs Declaration [] []
 unfolding reads after_passing token_at may_end
@@ -499,12 +504,12 @@ schema_reads schema spelled =
     let syntax = flat_map group_parts schema.groups ++ (flat_map (class_parts schema.groups) schema.classes ++ []) in
     let body : ReadsAs Declaration inside syntax = flat_reads Declaration group_text group_parts IsGroupSpelled group_reads schema.groups _ _ spelled.groups with_classes in
     let after_database : ReadsAs DatabaseName (32 ∷ (schema.name ++ 59 ∷ 10 ∷ inside)) (parts.Database schema.name ∷ syntax) = blank DatabaseName (schema.name ++ 59 ∷ 10 ∷ inside) (parts.Database schema.name ∷ syntax)
-      (name_of DatabaseName DatabaseEnd schema.name 59 (10 ∷ inside) (parts.Database schema.name) syntax spelled.name refl refl refl
-        (mark DatabaseEnd Declaration signs.Semicolon (10 ∷ inside) syntax refl (feed Declaration inside syntax body))) in
+    (name_of DatabaseName DatabaseEnd schema.name 59 (10 ∷ inside) (parts.Database schema.name) syntax spelled.name refl refl refl
+    (mark DatabaseEnd Declaration signs.Semicolon (10 ∷ inside) syntax refl (feed Declaration inside syntax body))) in
     let named = codes "database" ++ 32 ∷ (schema.name ++ 59 ∷ 10 ∷ inside) in
     let whole : ReadsAs Declare (codes "declare" ++ 32 ∷ named) (parts.Database schema.name ∷ syntax) = keyword Declare Database (codes "declare") words.Declare 32 named (parts.Database schema.name ∷ syntax) (spelled_by _ refl refl (omega arith)) refl refl refl (λ size. refl)
-      (blank Database named (parts.Database schema.name ∷ syntax)
-        (keyword Database DatabaseName (codes "database") words.Database 32 (schema.name ++ 59 ∷ 10 ∷ inside) (parts.Database schema.name ∷ syntax) (spelled_by _ refl refl (omega arith)) refl refl refl (λ size. refl) after_database)) in
+    (blank Database named (parts.Database schema.name ∷ syntax)
+    (keyword Database DatabaseName (codes "database") words.Database 32 (schema.name ++ 59 ∷ 10 ∷ inside) (parts.Database schema.name ∷ syntax) (spelled_by _ refl refl (omega arith)) refl refl refl (λ size. refl) after_database)) in
     let same : parts.Database schema.name ∷ syntax ≡ parts_of schema = ap (λ (classes : List Part). parts.Database schema.name ∷ (flat_map group_parts schema.groups ++ classes)) (append-nil (flat_map (class_parts schema.groups) schema.classes)) in
     subst (λ (text : List ℕ). ReadsAs Declare text (parts_of schema)) (sym (schema_line schema)) (subst (λ (syntax : List Part). ReadsAs Declare (codes "declare" ++ 32 ∷ named) syntax) same whole)
 

@@ -3,3 +3,4 @@ pub mod Reading
 pub mod OneAnswer
 pub mod Spellings
 pub mod CanonicalTexts
+pub mod Declaring

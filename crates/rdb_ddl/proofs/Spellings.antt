@@ -1,8 +1,7 @@
 -- Which token a text begins with, by its spelling.
-use Rattle.std.proofs.Common.{◌≡◌, ℕ, zero, suc, ◌+◌, ◌*◌, ◌-◌, ◌<◌, ◌≤◌, ◌^◌, ◌/◌, ◌%◌, Bool, true, false, cond, ltb, eqb, List, [], ◌∷◌, ◌++◌, length, take, drop, Option, Some, None, Result, Ok, Err, refl, sym, ap, ◌∙◌, arith, subst, length-append}
-use Rattle.std.specs.Prelude.{codes, slice_index, fold}
+use Rattle.std.proofs.Common.{◌≡◌, ℕ, ◌+◌, ◌*◌, ◌-◌, ◌<◌, ◌≤◌, ◌^◌, ◌/◌, ◌%◌, Bool, true, false, cond, ltb, eqb, List, [], ◌∷◌, ◌++◌, length, take, Option, Some, None, Ok, refl, sym, ap, ◌∙◌, arith, length-append}
 use Rattle.std.specs.Char.{is_ascii_digit}
-use Rattle.std.specs.List.{AllPass, prefix_len, take_while, All}
+use Rattle.std.specs.List.{AllPass, prefix_len, take_while}
 use Rattle.std.specs.Fmt.{decimal as printed}
 use Rattle.std.proofs.lemmas.Bool.Decides.{nat_tests, Decides-eqb}
 use Rattle.std.proofs.lemmas.List.Sums.{fold_push}
@@ -11,7 +10,7 @@ use Rattle.std.proofs.lemmas.Fmt.{decimal_by_steps}
 use Rattle.std.proofs.Math.Seq.{take-append_seam, drop-append_seam}
 use Rattle.rdb_ddl.specs.declared.token.Sign.{Sign}
 use Rattle.rdb_ddl.specs.declared.token.Sign.TheVariants as signs
-use Rattle.rdb_ddl.specs.Token.{Lexeme, Word, Name, Number, Mark, begins_name, is_name_byte, decimal, number_of, trivia_len, after_passing, after_trivia, unknown_at, token_of, name_at, number_at, mark_at, sign_of, token_at, lexeme_at, lexeme_after}
+use Rattle.rdb_ddl.specs.Token.{Word, Name, Number, Mark, begins_name, is_name_byte, decimal, number_of, trivia_len, after_passing, unknown_at, token_of, name_at, number_at, token_at, lexeme_at, lexeme_after}
 use Rattle.rdb_ddl.specs.Spelled.{IsWord}
 use Rattle.rdb_ddl.proofs.Trivia.{after_trivia-none}
 
@@ -114,7 +113,7 @@ number_is : (value : ℕ) (digits : List ℕ) (byte : ℕ) (rest : List ℕ) →
 number_is value digits byte rest w small stop =
     let text = digits ++ byte ∷ rest in
     let number : number_of digits ≡ Some value =
-        ap (λ (n : ℕ). cond (ltb 4294967295 n) None (Some n)) w.value_is ∙ ap (λ (past : Bool). cond past None (Some value)) (within 4294967295 value small) in
+    ap (λ (n : ℕ). cond (ltb 4294967295 n) None (Some n)) w.value_is ∙ ap (λ (past : Bool). cond past None (Some value)) (within 4294967295 value small) in
     ap (λ (len : ℕ). number_at (number_of (take len text)) len text) (front_len is_ascii_digit digits byte rest w.digits_alone stop)
     ∙ ap (λ (front : List ℕ). number_at (number_of front) (length digits) text) (take-append_seam digits (byte ∷ rest))
     ∙ ap (λ (n : Option ℕ). number_at n (length digits) text) number

@@ -7,3 +7,4 @@ pub mod Cause
 pub mod Canonical
 pub mod SchemaParts
 pub mod Spelled
+pub mod Resolved

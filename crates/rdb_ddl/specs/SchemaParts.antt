@@ -1,5 +1,5 @@
 -- The parts of a schema, in the order of its canonical text.
-use Rattle.std.specs.Prelude.{ℕ, ◌++◌, Bool, true, false, List, [], ◌∷◌, Option, Some, None, map}
+use Rattle.std.specs.Prelude.{ℕ, ◌++◌, Bool, true, false, List, [], ◌∷◌, Option, map}
 use Rattle.std.specs.List.{flat_map}
 use Rattle.rdb_schema.specs.declared.schema.Plain.{Plain}
 use Rattle.rdb_schema.specs.declared.schema.Plain.TheVariants as plains

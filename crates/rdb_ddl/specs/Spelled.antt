@@ -1,5 +1,5 @@
 -- Schemas whose names, types and sizes a text can have.
-use Rattle.std.specs.Prelude.{◌≡◌, ◌<◌, ◌≤◌, ℕ, Bool, true, false, All, ◌⊎◌, List, [], ◌∷◌, length, slice_index, Option, Some, None, Result, Ok, Err}
+use Rattle.std.specs.Prelude.{◌≡◌, ◌<◌, ◌≤◌, ℕ, true, All, ◌⊎◌, List, length, slice_index, Option, Some, None, Ok}
 use Rattle.std.specs.List.{AllPass}
 use Rattle.rdb_schema.specs.declared.schema.Plain.{Plain}
 use Rattle.rdb_schema.specs.declared.schema.Plain.TheVariants as plains
