@@ -1,3 +1,6 @@
 pub mod Trivia
 pub mod Reading
 pub mod OneAnswer
+pub mod Spellings
+pub mod CanonicalTexts
+pub mod Declaring

@@ -5,3 +5,6 @@ pub mod Grammar
 pub mod Read
 pub mod Cause
 pub mod Canonical
+pub mod SchemaParts
+pub mod Spelled
+pub mod Resolved

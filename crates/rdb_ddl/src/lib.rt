@@ -4,6 +4,7 @@
 mod expect;
 pub mod fault;
 mod keyword;
+mod laws;
 mod parse;
 pub mod place;
 mod reader;
@@ -12,5 +13,6 @@ mod tests;
 pub mod token;
 mod writer;
 
+pub use laws::{canonical_text_has_the_parts, parts_declare_the_schema};
 pub use reader::{one_answer, read};
 pub use writer::text;

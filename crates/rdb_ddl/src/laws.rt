@@ -1,0 +1,21 @@
+//! Laws of the schema language, for whoever proves with it. Nothing here runs.
+
+ghost use Rattle.std.specs.Prelude.{◌≡◌};
+ghost use Rattle.rdb_schema.specs.Meaning.{declared};
+ghost use Rattle.rdb_schema.specs.declared.schema.Schema.{Schema};
+ghost use Rattle.rdb_ddl.specs.Canonical.{canonical};
+ghost use Rattle.rdb_ddl.specs.SchemaParts.{parts_of};
+ghost use Rattle.rdb_ddl.specs.Spelled.{IsSpelled, HasParts};
+ghost use Rattle.rdb_ddl.specs.Resolved.{IsResolved};
+
+/// The canonical text of a schema whose names, types and sizes a text can have is one of the grammar: its
+/// parts are the schema's, each once, in canonical order, and it has no others.
+pub fn canonical_text_has_the_parts()
+    ensures { (schema : Schema) → IsSpelled schema → HasParts (canonical schema) (parts_of schema) }
+{}
+
+/// The parts of a schema declare the schema, where each place in its types, keys and events is the one that
+/// the name there stands for.
+pub fn parts_declare_the_schema()
+    ensures { (schema : Schema) → IsResolved schema → declared (parts_of schema) ≡ schema }
+{}
