@@ -10,7 +10,8 @@ for crate in rdb_base rdb_schema rdb_model; do
     mkdir -p "$work/crates/$crate"
     cp -r "$top/crates/$crate/src" "$top/crates/$crate/specs" "$top/crates/$crate/proofs" "$work/crates/$crate/"
 done
+cp "$top/HANDLES" "$work/"
 grep '^rdb_base\|^rdb_schema\|^rdb_model' "$top/crates.txt" > "$work/crates.txt"
 echo 'legal_bench: rdb_base rdb_schema rdb_model' >> "$work/crates.txt"
 cp "$here/main.rt.txt" "$work/crates/legal_bench/src/main.rt"
-(cd "$work/crates/legal_bench" && rt try)
+(cd "$work/crates/legal_bench" && rt run)

@@ -36,6 +36,14 @@ made_in_more objects done i d within is =
 pub after_more : (schema : Schema) (db : Database) (done : List (Op × Reply)) (i : ℕ) (d : Op × Reply) → i < length done → d ≡ get_or done i d → after schema db (drop i done) ≡ after schema (answer schema db d.0).1 (drop (i + 1) done)
 after_more schema db done i d within is = ap (after schema db) (drop_next done i d within is)
 
+-- the database after what was passed, one operation on
+after_push : (schema : Schema) (db : Database) (done : List (Op × Reply)) (d : Op × Reply) → after schema db (done ++ d ∷ []) ≡ (answer schema (after schema db done) d.0).1
+after_push schema db [] d = refl
+after_push schema db (x ∷ xs) d = after_push schema (answer schema db x.0).1 xs d
+
+pub after_taken : (schema : Schema) (db : Database) (done : List (Op × Reply)) (i : ℕ) (d : Op × Reply) → i < length done → d ≡ get_or done i d → after schema db (take (i + 1) done) ≡ (answer schema (after schema db (take i done)) d.0).1
+after_taken schema db done i d within is = ap (after schema db) (take_next done i d within is) ∙ after_push schema db (take i done) d
+
 -- the first wrong operation so far, or else of what is left, one operation on
 pub wrong_more : (schema : Schema) (db : Database) (objects : List (ℕ × ℕ)) (done : List (Op × Reply)) (i : ℕ) (d : Op × Reply) (wrong : Option ℕ) (same again : Bool) → i < length done → d ≡ get_or done i d → same ≡ same_reply (answer schema db d.0).0 d.1 → again ≡ option_map_or (was_made objects) (made_by d) false → option_or (option_or wrong (cond (same && not again) None (Some (i + 1)))) (wrong_reply schema (answer schema db d.0).1 (objects ++ made_in (d ∷ [])) (i + 1 + 1) (drop (i + 1) done)) ≡ option_or wrong (wrong_reply schema db objects (i + 1) (drop i done))
 wrong_more schema db objects done i d (Some w) same again within is so also = refl

@@ -10,7 +10,7 @@ use Rattle.rdb_model.proofs.Rising.{row_of_with_row}
 contains_first : {X : Type 0} (x : X) (xs : List X) → Contains (x ∷ xs) x
 contains_first x xs = (0, omega arith, refl)
 
-contains_later : {X : Type 0} (y x : X) (xs : List X) → Contains xs x → Contains (y ∷ xs) x
+pub contains_later : {X : Type 0} (y x : X) (xs : List X) → Contains xs x → Contains (y ∷ xs) x
 contains_later y x xs c = (suc c.0, omega (arith, c.1), c.2)
 
 -- an element that passes is kept, and what is kept passes

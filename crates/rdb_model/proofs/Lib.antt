@@ -28,3 +28,5 @@ pub mod TallyLemmas
 pub mod JudgingLemmas
 pub mod AnsweringLemmas
 pub mod LegalityLemmas
+pub mod EventLists
+pub mod NextEvents

@@ -36,7 +36,7 @@ rising_after_all : (schema : Schema) (db : Database) (stories : List (List (Op �
 rising_after_all schema db [] all = all
 rising_after_all schema db (done ∷ stories) all = rising_after_all schema (after schema db done) stories (rising_after schema db done all)
 
-rising_fold : (schema : Schema) (journal : List Entry) (n : ℕ) → AllRising (fold schema journal n)
+pub rising_fold : (schema : Schema) (journal : List Entry) (n : ℕ) → AllRising (fold schema journal n)
 rising_fold schema journal n = rising_after_all schema (empty (length schema.classes)) (take n (filter_map committed journal)) (rising_empty (length schema.classes))
 
 -- what holds of each of the second for each of the first holds of each of the first for each of the second

@@ -1,5 +1,5 @@
 -- The events of commits: what happened to each object, by the database before and after a commit.
-use Rattle.std.specs.Prelude.{ℕ, zero, suc, ◌+◌, Bool, true, false, ◌&&◌, ◌||◌, ◌==◌, nat_lt, not, List, [], ◌∷◌, ◌++◌, map, slice_get, Option, Some, None, if◌then◌else◌}
+use Rattle.std.specs.Prelude.{◌≡◌, ℕ, zero, suc, ◌+◌, ◌-◌, ◌<◌, ◌≤◌, Bool, true, false, ◌&&◌, ◌||◌, ◌==◌, nat_lt, not, List, [], ◌∷◌, ◌++◌, map, slice_get, Option, Some, None, if◌then◌else◌}
 use Rattle.std.specs.List.{filter, find, flat_map, cons_option}
 use Rattle.std.specs.Option.{option_map, option_map_or}
 use Rattle.std.specs.Ordering.{is_eq}
@@ -70,6 +70,16 @@ events_up_to schema class kind journal (suc n) =
 abbrev pub event_list : Schema → ℕ → ℕ → List Entry → List (ℕ × ℕ)
 event_list schema class event journal = option_map_or (λ kind. events_up_to schema class kind journal (commits journal)) (event_kind schema class event) []
 
+-- whether a pair of a commit and an id is behind a place: of a later commit, or of the same one with a greater id
+abbrev pub is_behind : ℕ × ℕ → ℕ × ℕ → Bool
+is_behind place pair = nat_lt place.0 pair.0 || ((place.0 == pair.0) && nat_lt place.1 pair.1)
+
 -- the first pair behind a place in the list
 abbrev pub next_event : ℕ × ℕ → List (ℕ × ℕ) → Option (ℕ × ℕ)
-next_event place events = find (λ e. nat_lt place.0 e.0 || ((place.0 == e.0) && nat_lt place.1 e.1)) events
+next_event place events = find (is_behind place) events
+
+-- that an event of a kind happened to the object of that id in the commit of that number
+abbrev pub HappenedIn : Schema → ℕ → EventKind → List Entry → ℕ × ℕ → Type 0
+HappenedIn schema class kind journal pair =
+    (0 < pair.0) × (pair.0 ≤ commits journal)
+    × (happened kind (row_of (objects_of (fold schema journal (pair.0 - 1)) class) pair.1) (row_of (objects_of (fold schema journal pair.0) class) pair.1) ≡ true)

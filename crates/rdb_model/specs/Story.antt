@@ -1,5 +1,5 @@
 -- The story run: operations in order, each of which gets the reply that stands beside it.
-use Rattle.std.specs.Prelude.{Bool, true, false, ◌&&◌, ◌==◌, nat_eq, List, [], ◌∷◌, Option, Some, None, if◌then◌else◌}
+use Rattle.std.specs.Prelude.{◌≡◌, ℕ, ◌<◌, Bool, true, false, ◌&&◌, ◌==◌, nat_eq, List, [], ◌∷◌, length, take, Option, Some, None, if◌then◌else◌}
 use Rattle.std.specs.Cmp.Lexicographic.{pointwise}
 use Rattle.std.specs.Ordering.{is_eq}
 use Rattle.rdb_base.specs.Order.{row_order}
@@ -34,3 +34,7 @@ run schema db (d ∷ ds) =
 abbrev pub after : Schema → Database → List (Op × Reply) → Database
 after schema db [] = db
 after schema db (d ∷ ds) = after schema (answer schema db d.0).1 ds
+
+-- that a database is the one after the first few of the operations, not after all of them
+abbrev pub IsAfterSome : Schema → Database → List (Op × Reply) → Database → Type 0
+IsAfterSome schema db done next = (n : ℕ) × (n < length done) × (next ≡ after schema db (take n done))

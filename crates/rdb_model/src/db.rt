@@ -7,7 +7,7 @@ ghost use Rattle.rdb_base.specs.declared.identity.Kind.{Kind};
 ghost use Rattle.std.specs.List.{All};
 ghost use Rattle.std.specs.Option.{option_map, option_copied};
 ghost use Rattle.rdb_model.specs.Database.{empty, objects_of, row_of};
-ghost use Rattle.rdb_model.specs.Story.{after};
+ghost use Rattle.rdb_model.specs.Story.{after, IsAfterSome};
 ghost use Rattle.rdb_model.specs.Answer.{answer};
 ghost use Rattle.rdb_model.specs.Fits.{Fits, HasFewIndexes};
 ghost use Rattle.rdb_model.specs.Index.{indexes_of};
@@ -88,12 +88,14 @@ impl Db {
         self.classes[class as usize].row(id)
     }
 
-    /// Does operations one after another, whatever they are told. Where memory is wanting some of them are done.
+    /// Does operations one after another, whatever they are told; the replies are dropped. Where memory is wanting the first few of them are
+    /// done, and no other. The cost is that of each of the operations.
     pub fn apply_all(&mut self, schema: &Schema, done: &Done) -> Result<(), NoMemory>
         requires fits { All (λ d. Fits schema.now d.0 Kind.ReadWrite) done.now }
         requires classes { length self.old ≡ length schema.now.classes }
         requires few_indexes { HasFewIndexes schema.now }
         ensures next { OnOk result (self.new ≡ after schema.now self.old done.now) }
+        ensures err { OnErr result (IsAfterSome schema.now self.old done.now self.new) }
         ensures classes { length self.new ≡ length self.old }
     {
         for (op, _) in done.as_slice() {

@@ -1,6 +1,6 @@
 //! Laws of the plain database and of journals, each the contract of a function that does nothing.
 
-ghost use Rattle.std.specs.Prelude.{◌≡◌, ◌↔◌, ℕ, ◌+◌, ◌-◌, ◌<◌, ◌≤◌, true, List, [], ◌∷◌, ◌++◌, length, slice_get, Some};
+ghost use Rattle.std.specs.Prelude.{◌≡◌, ◌↔◌, ℕ, ◌+◌, ◌-◌, ◌<◌, ◌≤◌, true, List, [], ◌∷◌, ◌++◌, length, slice_get, Some, None, false};
 ghost use Rattle.std.specs.List.{Contains};
 ghost use Rattle.rdb_base.specs.declared.operation.Op.{Op};
 ghost use Rattle.rdb_base.specs.declared.operation.Reply.{Reply};
@@ -15,7 +15,7 @@ ghost use Rattle.rdb_model.specs.Journal.{IsLegal, commits, fold};
 ghost use Rattle.rdb_model.specs.Validation.{AreLeftAlone, RunsAfter, IsValid, was_written};
 ghost use Rattle.rdb_model.specs.Serial.{serial_order};
 ghost use Rattle.rdb_model.specs.SerialRun.{operations_of, ReadsFit, ordered_story, ComesBefore};
-ghost use Rattle.rdb_model.specs.Events.{happened, event_ids};
+ghost use Rattle.rdb_model.specs.Events.{happened, event_ids, event_kind, event_list, is_behind, next_event, HappenedIn};
 
 /// What a legal journal begins with is a legal journal.
 pub fn legal_prefix()
@@ -76,4 +76,29 @@ pub fn events_are_of_written_objects()
         IsLegal schema journal → Contains journal (entry.Commit own commit) →
         happened kind (row_of (objects_of (fold schema journal (commit - 1)) class) id) (row_of (objects_of (fold schema journal commit) class) id) ≡ true →
         was_written own.done (class, id) ≡ true }
+{}
+
+/// The event list of a class's event has the pairs of a commit and the id of an object to which that event happened in that commit,
+/// and no others.
+pub fn event_list_is_what_happened()
+    ensures { (schema : Schema) (journal : List Entry) (class event : ℕ) (kind : EventKind) (pair : ℕ × ℕ) →
+        event_kind schema class event ≡ Some kind →
+        Contains (event_list schema class event journal) pair ↔ HappenedIn schema class kind journal pair }
+{}
+
+/// An event list goes from commit to commit, and within one by ascending ids: each pair is behind all that stand before it, so none stands twice.
+pub fn event_list_is_in_order()
+    ensures { (schema : Schema) (journal : List Entry) (class event i j : ℕ) (earlier later : ℕ × ℕ) →
+        slice_get (event_list schema class event journal) i ≡ Some earlier → slice_get (event_list schema class event journal) j ≡ Some later →
+        i < j → is_behind earlier later ≡ true }
+{}
+
+/// The next event behind a place is one of the list and behind it, no other of an event list that is behind the place comes before it, and
+/// there is none only where none is behind the place.
+pub fn next_event_is_the_first_behind()
+    ensures found { (place next : ℕ × ℕ) (events : List (ℕ × ℕ)) → next_event place events ≡ Some next → Contains events next × (is_behind place next ≡ true) }
+    ensures none { (place other : ℕ × ℕ) (events : List (ℕ × ℕ)) → next_event place events ≡ None → Contains events other → is_behind place other ≡ false }
+    ensures first { (schema : Schema) (journal : List Entry) (class event : ℕ) (place next other : ℕ × ℕ) →
+        next_event place (event_list schema class event journal) ≡ Some next → Contains (event_list schema class event journal) other →
+        is_behind place other ≡ true → is_behind other next ≡ false }
 {}

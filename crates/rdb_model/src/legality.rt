@@ -68,7 +68,7 @@ fn story_fits(schema: &Schema, kind: Kind, story: &Story) -> bool
 }
 
 // Whether each operation fits under a kind.
-fn each_fits(schema: &Schema, kind: Kind, done: &Done) -> bool
+pub(crate) fn each_fits(schema: &Schema, kind: Kind, done: &Done) -> bool
     ensures { IsTrue result ↔ AllFit schema.now kind done.now }
 {
     for (op, _) in done.as_slice() {
