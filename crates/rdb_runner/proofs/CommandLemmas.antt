@@ -1,114 +1,186 @@
 -- What follows from how words end, status by status.
-use Rattle.std.proofs.Common.{◌≡◌, ℕ, lit<, ◌<◌, ◌⊎◌, inl, inr, List, [], ◌∷◌, length, Option, Some, None, refl, sym, ap, ◌∙◌, subst, arith}
-use Rattle.std.specs.Prelude.{Contains, MatchOption, slice_get}
+use Rattle.std.proofs.Common.{◌≡◌, ℕ, lit<, ◌<◌, ◌⊎◌, inl, inr, List, [], ◌∷◌, length, Some, refl, sym, ap, ◌∙◌, subst, arith}
+use Rattle.std.specs.Prelude.{Contains, slice_get}
 use Rattle.std.proofs.Common.{Bor, get_or}
 use Rattle.rdb_runner.specs.declared.command_line.Settings.{Settings}
-use Rattle.rdb_runner.specs.CommandLine.{Word, Command, replay, IsCommandLine, texts}
-use Rattle.rdb_runner.specs.Command.{IsNoCommandLine, usage_line, job_of, SeesNothing, CommandOwes, CommandEnds, WordsEnd, IsCutShort, AsksFor, AsksForOther, AsksInOrder}
-use Rattle.rdb_runner.specs.Promise.{names_of, JobEnds, IsDone, IsUnreadable, IsNotBuilt, JobOwes, Shows, HasTooLong, ArePlain, AsksFirst}
-use Rattle.rdb_runner.specs.Reading.{Sight}
-use Rattle.rdb_runner.specs.Telling.{Ink, Tells, Writes, IsSilent}
+use Rattle.rdb_runner.specs.CommandLine.{Word, Command, replay, check, IsCommandLine, texts}
+use Rattle.rdb_runner.specs.Command.{IsNoCommandLine, usage_line, Task, replays, checks, unbuilt, task_of, not_built_line, TaskAsks, IsBuilt, SeesNothing, CommandOwes, CommandEnds, WordsEnd, IsCutShort, AsksFor, AsksToCheck, AsksForFiles, AsksForBuilt, AsksForOther, AsksInOrder}
+use Rattle.rdb_runner.specs.Promise.{names_of, JobEnds, IsDone, IsNotBuilt, JobOwes, ArePlain}
+use Rattle.rdb_runner.specs.Reading.{Sight, IsUnreadable, HasTooLong}
+use Rattle.rdb_runner.specs.SchemaFile.{IsChecked, IsBadSchema, HasBadSchema, CheckEnds, CheckOwes}
+use Rattle.rdb_runner.specs.Telling.{Ink, Tells, Writes, IsSilent, Shows}
+use Rattle.rdb_runner.proofs.CheckLemmas.{WholeCheck, by_whole_check, whole_check_failed_read, whole_check_too_long, whole_check_refused}
 use Rattle.rdb_runner.proofs.CommandLineMeaning.{one_line}
-use Rattle.rdb_runner.proofs.JobLemmas.{told_within, plain_built}
+use Rattle.rdb_runner.proofs.JobLemmas.{told_within, plain_built, done_is_read, not_built_is_read}
 
 -- what is owed to a command, told whole
 abbrev WholeJob : List Word → Sight → Ink → ℕ → Type 0
 WholeJob names sight ink result = (status : ℕ) × (text : List ℕ) × JobOwes names sight status text × (result ≡ status) × Writes ink text
 
--- the three ways in which a job that is told whole ends
+-- the four ways in which a job that is told whole ends
 by_whole : {P : Type 0} → (names : List Word) (sight : Sight) (ink : Ink) (result : ℕ) → WholeJob names sight ink result
     → ((text : List ℕ) → result ≡ 0 → IsDone names sight text → Writes ink text → P)
     → ((text : List ℕ) → result ≡ 3 → IsUnreadable names sight text → Writes ink text → P)
+    → ((text : List ℕ) → result ≡ 4 → IsBadSchema names sight text → Writes ink text → P)
     → ((text : List ℕ) → result ≡ 10 → IsNotBuilt names sight text → Writes ink text → P)
     → P
-by_whole names sight ink result (status, text, inl zero, r, w) done unreadable other = done text (r ∙ zero.0) zero.1 w
-by_whole names sight ink result (status, text, inr (inl three), r, w) done unreadable other = unreadable text (r ∙ three.0) three.1 w
-by_whole names sight ink result (status, text, inr (inr ten), r, w) done unreadable other = other text (r ∙ ten.0) ten.1 w
+by_whole names sight ink result (status, text, inl zero, r, w) done unreadable bad other = done text (r ∙ zero.0) zero.1 w
+by_whole names sight ink result (status, text, inr (inl three), r, w) done unreadable bad other = unreadable text (r ∙ three.0) three.1 w
+by_whole names sight ink result (status, text, inr (inr (inl four)), r, w) done unreadable bad other = bad text (r ∙ four.0) four.1 w
+by_whole names sight ink result (status, text, inr (inr (inr ten)), r, w) done unreadable bad other = other text (r ∙ ten.0) ten.1 w
 
 -- the ways in which words end
 pub by_words : {P : Type 0} → (words : List Word) (sight : Sight) (ink : Ink) (result : ℕ) → WordsEnd words sight ink result
     → (result ≡ 2 → IsNoCommandLine words → SeesNothing sight → Writes ink usage_line → P)
     → ((text : List ℕ) → result ≡ 10 → AsksForOther words text → SeesNothing sight → Writes ink text → P)
     → ((names : List Word) → AsksFor words names → WholeJob names sight ink result → P)
+    → ((name : Word) → AsksToCheck words name → WholeCheck name sight ink result → P)
     → (result ≡ 7 → IsCutShort words sight ink → P)
-    → (result ≡ 8 → IsSilent ink → (names : List Word) × AsksFor words names → P)
+    → (result ≡ 8 → IsSilent ink → AsksForBuilt words → P)
     → P
-by_words words sight ink result (inr none) usage other job cut silent = silent none.0 none.1 none.2
-by_words words sight ink result (inl (status, text, owes, inr off)) usage other job cut silent = cut off.0 (status, text, owes, off.1)
-by_words words sight ink result (inl (status, text, inl two, inl whole)) usage other job cut silent =
+by_words words sight ink result (inr none) usage other job checked cut silent = silent none.0 none.1 none.2
+by_words words sight ink result (inl (status, text, owes, inr off)) usage other job checked cut silent = cut off.0 (status, text, owes, off.1)
+by_words words sight ink result (inl (status, text, inl two, inl whole)) usage other job checked cut silent =
     usage (whole.0 ∙ two.0) two.1 two.3 (subst (Writes ink) two.2 whole.1)
-by_words {P} words sight ink result (inl (status, text, inr (command, is, owes), inl whole)) usage other job cut silent = by_option (job_of command) refl owes
+by_words {P} words sight ink result (inl (status, text, inr (command, is, owes), inl whole)) usage other job checked cut silent = by_task (task_of command) refl owes
   where
-    by_option : (o : Option (List Word)) → job_of command ≡ o → CommandOwes command o sight status text → P
-    by_option None e h = other text (whole.0 ∙ h.0) (command, is, e, h.1) h.2 whole.1
-    by_option (Some names) e h = job names (command, is, e) (status, text, h, whole.0, whole.1)
+    by_task : (task : Task) → task_of command ≡ task → CommandOwes command task sight status text → P
+    by_task unbuilt e h = other text (whole.0 ∙ h.0) (command, is, e, h.1) h.2 whole.1
+    by_task (replays names) e h = job names (command, is, e) (status, text, h, whole.0, whole.1)
+    by_task (checks name) e h = checked name (command, is, e) (status, text, h, whole.0, whole.1)
+
+-- words ask for one task
+one_task : (words : List Word) (one other : Command) → IsCommandLine words one → IsCommandLine words other → task_of one ≡ task_of other
+one_task words one other a b = ap task_of (one_line words one other a b)
 
 -- words ask for one job
 one_job : (words one other : List Word) → AsksFor words one → AsksFor words other → one ≡ other
 one_job words one other a b =
-    let same : job_of a.0 ≡ job_of b.0 = ap job_of (one_line words a.0 b.0 a.1 b.1) in
-    let both : Some one ≡ Some other = sym a.2 ∙ same ∙ b.2 in
+    let both : replays one ≡ replays other = sym a.2 ∙ one_task words a.0 b.0 a.1 b.1 ∙ b.2 in
+    cc
+
+-- words ask for one check
+one_check : (words : List Word) (one other : Word) → AsksToCheck words one → AsksToCheck words other → one ≡ other
+one_check words one other a b =
+    let both : checks one ≡ checks other = sym a.2 ∙ one_task words a.0 b.0 a.1 b.1 ∙ b.2 in
+    cc
+
+job_or_check : (words names : List Word) (name : Word) → AsksFor words names → AsksToCheck words name → ⊥
+job_or_check words names name a b =
+    let both : replays names ≡ checks name = sym a.2 ∙ one_task words a.0 b.0 a.1 b.1 ∙ b.2 in
     cc
 
 -- words don't ask for a job and for another command
-not_both : (words : List Word) (command : Command) (names : List Word) → IsCommandLine words command → job_of command ≡ None → AsksFor words names → ⊥
+not_both : (words : List Word) (command : Command) (names : List Word) → IsCommandLine words command → task_of command ≡ unbuilt → AsksFor words names → ⊥
 not_both words command names is none asks =
-    let both : None ≡ Some names = sym none ∙ ap job_of (one_line words command asks.0 is asks.1) ∙ asks.2 in
+    let both : unbuilt ≡ replays names = sym none ∙ one_task words command asks.0 is asks.1 ∙ asks.2 in
     cc
 
-module _ (words : List Word) (sight : Sight) (ink : Ink) (result : ℕ) (end : WordsEnd words sight ink result) where
-  pub words_status : Contains (0 ∷ 2 ∷ 3 ∷ 7 ∷ 8 ∷ 10 ∷ []) result
-  words_status = by_words words sight ink result end (λ r bad sees w. (1, lit< tt, sym r)) (λ text r h sees w. (5, lit< tt, sym r))
-      (λ names asks whole. by_whole names sight ink result whole (λ text r h w. (0, lit< tt, sym r)) (λ text r h w. (2, lit< tt, sym r)) (λ text r h w. (5, lit< tt, sym r)))
-      (λ r h. (3, lit< tt, sym r)) (λ r h asks. (4, lit< tt, sym r))
+not_checked : (words : List Word) (command : Command) (name : Word) → IsCommandLine words command → task_of command ≡ unbuilt → AsksToCheck words name → ⊥
+not_checked words command name is none asks =
+    let both : unbuilt ≡ checks name = sym none ∙ one_task words command asks.0 is asks.1 ∙ asks.2 in
+    cc
 
-  pub words_done : result ≡ 0 → (names : List Word) × AsksFor words names × Shows ink (IsDone names sight)
+-- the files that words' job reads
+files_of_job : (words names files : List Word) → AsksFor words names → AsksForFiles words files → files ≡ names
+files_of_job words names files job (inl asks) = one_job words files names asks job
+files_of_job words names files job (inr asks) = absurd (job_or_check words names asks.0 job asks.1)
+
+-- the files that words' check reads
+files_of_check : (words : List Word) (name : Word) (files : List Word) → AsksToCheck words name → AsksForFiles words files → files ≡ name ∷ []
+files_of_check words name files checked (inl asks) = absurd (job_or_check words files name asks checked)
+files_of_check words name files checked (inr asks) = asks.2 ∙ ap (λ (n : Word). n ∷ []) (one_check words asks.0 name asks.1 checked)
+
+-- words that ask for files ask for a command that is built
+no_files : (words : List Word) (command : Command) (files : List Word) → IsCommandLine words command → task_of command ≡ unbuilt → AsksForFiles words files → ⊥
+no_files words command files is none (inl asks) = not_both words command files is none asks
+no_files words command files is none (inr asks) = not_checked words command asks.0 is none asks.1
+
+asks_command : (words files : List Word) → AsksForFiles words files → IsNoCommandLine words → ⊥
+asks_command words files (inl asks) bad = bad asks.0 asks.1
+asks_command words files (inr asks) bad = bad asks.1.0 asks.1.1
+
+module _ (words : List Word) (sight : Sight) (ink : Ink) (result : ℕ) (end : WordsEnd words sight ink result) where
+  pub words_status : Contains (0 ∷ 2 ∷ 3 ∷ 4 ∷ 7 ∷ 8 ∷ 10 ∷ []) result
+  words_status = by_words words sight ink result end (λ r bad sees w. (1, lit< tt, sym r)) (λ text r h sees w. (6, lit< tt, sym r))
+      (λ names asks whole. by_whole names sight ink result whole (λ text r h w. (0, lit< tt, sym r)) (λ text r h w. (2, lit< tt, sym r)) (λ text r h w. (3, lit< tt, sym r)) (λ text r h w. (6, lit< tt, sym r)))
+      (λ name asks whole. by_whole_check name sight ink result whole (λ text r h w. (0, lit< tt, sym r)) (λ text r h w. (2, lit< tt, sym r)) (λ text r h w. (3, lit< tt, sym r)))
+      (λ r h. (4, lit< tt, sym r)) (λ r h asks. (5, lit< tt, sym r))
+
+  pub words_done : result ≡ 0 → ((names : List Word) × AsksFor words names × Shows ink (IsDone names sight)) ⊎ ((name : Word) × AsksToCheck words name × Shows ink (IsChecked name sight))
   words_done e = by_words words sight ink result end (λ r bad sees w. absurd (omega arith)) (λ text r h sees w. absurd (omega arith))
-      (λ names asks whole. by_whole names sight ink result whole (λ text r h w. (names, asks, (text, h, w))) (λ text r h w. absurd (omega arith)) (λ text r h w. absurd (omega arith)))
+      (λ names asks whole. by_whole names sight ink result whole (λ text r h w. inl (names, asks, (text, h, w))) (λ text r h w. absurd (omega arith)) (λ text r h w. absurd (omega arith)) (λ text r h w. absurd (omega arith)))
+      (λ name asks whole. by_whole_check name sight ink result whole (λ text r h w. inr (name, asks, (text, h, w))) (λ text r h w. absurd (omega arith)) (λ text r h w. absurd (omega arith)))
       (λ r h. absurd (omega arith)) (λ r h asks. absurd (omega arith))
 
   pub words_usage : result ≡ 2 → IsNoCommandLine words × Writes ink usage_line × SeesNothing sight
   words_usage e = by_words words sight ink result end (λ r bad sees w. (bad, w, sees)) (λ text r h sees w. absurd (omega arith))
-      (λ names asks whole. by_whole names sight ink result whole (λ text r h w. absurd (omega arith)) (λ text r h w. absurd (omega arith)) (λ text r h w. absurd (omega arith)))
+      (λ names asks whole. by_whole names sight ink result whole (λ text r h w. absurd (omega arith)) (λ text r h w. absurd (omega arith)) (λ text r h w. absurd (omega arith)) (λ text r h w. absurd (omega arith)))
+      (λ name asks whole. by_whole_check name sight ink result whole (λ text r h w. absurd (omega arith)) (λ text r h w. absurd (omega arith)) (λ text r h w. absurd (omega arith)))
       (λ r h. absurd (omega arith)) (λ r h asks. absurd (omega arith))
 
   pub words_none : IsNoCommandLine words → Contains (2 ∷ 7 ∷ []) result
   words_none bad = by_words words sight ink result end (λ r h sees w. (0, lit< tt, sym r)) (λ text r h sees w. absurd (bad h.0 h.1))
-      (λ names asks whole. absurd (bad asks.0 asks.1)) (λ r h. (1, lit< tt, sym r)) (λ r h asks. absurd (bad asks.1.0 asks.1.1))
+      (λ names asks whole. absurd (bad asks.0 asks.1)) (λ name asks whole. absurd (bad asks.0 asks.1)) (λ r h. (1, lit< tt, sym r)) (λ r h asks. absurd (bad asks.0 asks.1))
 
-  pub words_unreadable : result ≡ 3 → (names : List Word) × AsksFor words names × Shows ink (IsUnreadable names sight)
+  pub words_unreadable : result ≡ 3 → (names : List Word) × AsksForFiles words names × Shows ink (IsUnreadable names sight)
   words_unreadable e = by_words words sight ink result end (λ r bad sees w. absurd (omega arith)) (λ text r h sees w. absurd (omega arith))
-      (λ names asks whole. by_whole names sight ink result whole (λ text r h w. absurd (omega arith)) (λ text r h w. (names, asks, (text, h, w))) (λ text r h w. absurd (omega arith)))
+      (λ names asks whole. by_whole names sight ink result whole (λ text r h w. absurd (omega arith)) (λ text r h w. (names, inl asks, (text, h, w))) (λ text r h w. absurd (omega arith)) (λ text r h w. absurd (omega arith)))
+      (λ name asks whole. by_whole_check name sight ink result whole (λ text r h w. absurd (omega arith)) (λ text r h w. (name ∷ [], inr (name, asks, refl), (text, h, w))) (λ text r h w. absurd (omega arith)))
+      (λ r h. absurd (omega arith)) (λ r h asks. absurd (omega arith))
+
+  pub words_bad_schema : result ≡ 4 → (names : List Word) × AsksForFiles words names × Shows ink (IsBadSchema names sight)
+  words_bad_schema e = by_words words sight ink result end (λ r bad sees w. absurd (omega arith)) (λ text r h sees w. absurd (omega arith))
+      (λ names asks whole. by_whole names sight ink result whole (λ text r h w. absurd (omega arith)) (λ text r h w. absurd (omega arith)) (λ text r h w. (names, inl asks, (text, h, w))) (λ text r h w. absurd (omega arith)))
+      (λ name asks whole. by_whole_check name sight ink result whole (λ text r h w. absurd (omega arith)) (λ text r h w. absurd (omega arith)) (λ text r h w. (name ∷ [], inr (name, asks, refl), (text, h, w))))
       (λ r h. absurd (omega arith)) (λ r h asks. absurd (omega arith))
 
   pub words_not_built : result ≡ 10 → Shows ink (AsksForOther words) ⊎ ((names : List Word) × AsksFor words names × Shows ink (IsNotBuilt names sight))
   words_not_built e = by_words words sight ink result end (λ r bad sees w. absurd (omega arith)) (λ text r h sees w. inl (text, h, w))
-      (λ names asks whole. by_whole names sight ink result whole (λ text r h w. absurd (omega arith)) (λ text r h w. absurd (omega arith)) (λ text r h w. inr (names, asks, (text, h, w))))
+      (λ names asks whole. by_whole names sight ink result whole (λ text r h w. absurd (omega arith)) (λ text r h w. absurd (omega arith)) (λ text r h w. absurd (omega arith)) (λ text r h w. inr (names, asks, (text, h, w))))
+      (λ name asks whole. by_whole_check name sight ink result whole (λ text r h w. absurd (omega arith)) (λ text r h w. absurd (omega arith)) (λ text r h w. absurd (omega arith)))
       (λ r h. absurd (omega arith)) (λ r h asks. absurd (omega arith))
 
   pub words_cut : result ≡ 7 → IsCutShort words sight ink
   words_cut e = by_words words sight ink result end (λ r bad sees w. absurd (omega arith)) (λ text r h sees w. absurd (omega arith))
-      (λ names asks whole. by_whole names sight ink result whole (λ text r h w. absurd (omega arith)) (λ text r h w. absurd (omega arith)) (λ text r h w. absurd (omega arith)))
+      (λ names asks whole. by_whole names sight ink result whole (λ text r h w. absurd (omega arith)) (λ text r h w. absurd (omega arith)) (λ text r h w. absurd (omega arith)) (λ text r h w. absurd (omega arith)))
+      (λ name asks whole. by_whole_check name sight ink result whole (λ text r h w. absurd (omega arith)) (λ text r h w. absurd (omega arith)) (λ text r h w. absurd (omega arith)))
       (λ r h. h) (λ r h asks. absurd (omega arith))
 
   pub words_memory : result ≡ 8 → IsSilent ink
   words_memory e = by_words words sight ink result end (λ r bad sees w. absurd (omega arith)) (λ text r h sees w. absurd (omega arith))
-      (λ names asks whole. by_whole names sight ink result whole (λ text r h w. absurd (omega arith)) (λ text r h w. absurd (omega arith)) (λ text r h w. absurd (omega arith)))
+      (λ names asks whole. by_whole names sight ink result whole (λ text r h w. absurd (omega arith)) (λ text r h w. absurd (omega arith)) (λ text r h w. absurd (omega arith)) (λ text r h w. absurd (omega arith)))
+      (λ name asks whole. by_whole_check name sight ink result whole (λ text r h w. absurd (omega arith)) (λ text r h w. absurd (omega arith)) (λ text r h w. absurd (omega arith)))
       (λ r h. absurd (omega arith)) (λ r h asks. h)
 
   pub words_failed_read : sight.faults < sight.faults_then → Contains (3 ∷ 7 ∷ 8 ∷ []) result
   words_failed_read rose = by_words words sight ink result end (λ r bad sees w. let same = sees.1 in absurd (omega arith)) (λ text r h sees w. let same = sees.1 in absurd (omega arith))
-      (λ names asks whole. by_whole names sight ink result whole (λ text r h w. let same = h.3.2 in absurd (omega arith)) (λ text r h w. (0, lit< tt, sym r)) (λ text r h w. let same = h.5.2 in absurd (omega arith)))
+      (λ names asks whole. by_whole names sight ink result whole (λ text r h w. let same = h.3.2 in absurd (omega arith)) (λ text r h w. (0, lit< tt, sym r)) (λ text r h w. let same = h.3.2 in absurd (omega arith)) (λ text r h w. let same = h.5.2 in absurd (omega arith)))
+      (λ name asks whole. (0, lit< tt, sym (whole_check_failed_read name sight ink result whole rose)))
       (λ r h. (1, lit< tt, sym r)) (λ r h asks. (2, lit< tt, sym r))
 
-  pub words_too_long : (names : List Word) → AsksFor words names → HasTooLong names sight → Contains (3 ∷ 7 ∷ 8 ∷ []) result
+  pub words_too_long : (names : List Word) → AsksForFiles words names → HasTooLong names sight → Contains (3 ∷ 7 ∷ 8 ∷ []) result
   words_too_long names asks (place, name, there, at, is, long) = by_words words sight ink result end
-      (λ r bad sees w. absurd (bad asks.0 asks.1)) (λ text r h sees w. absurd (not_both words h.0 names h.1 h.2 asks))
-      (λ others other whole. let same = one_job words others names other asks in by_whole others sight ink result whole
-      (λ text r h w. let short = told_within sight.told others _ place name there h.3.0 (subst (λ (ns : List Word). slice_get ns place ≡ Some name) (sym same) at) is in absurd (omega arith))
+      (λ r bad sees w. absurd (asks_command words names asks bad)) (λ text r h sees w. absurd (no_files words h.0 names h.1 h.2 asks))
+      (λ others other whole. let same = files_of_job words others names other asks in by_whole others sight ink result whole
+      (λ text r h w. let short = told_within sight.told others _ place name there h.3.0 (subst (λ (ns : List Word). slice_get ns place ≡ Some name) same at) is in absurd (omega arith))
       (λ text r h w. (0, lit< tt, sym r))
-      (λ text r h w. let short = told_within sight.told others _ place name there h.5.0 (subst (λ (ns : List Word). slice_get ns place ≡ Some name) (sym same) at) is in absurd (omega arith)))
+      (λ text r h w. let short = told_within sight.told others _ place name there h.3.0 (subst (λ (ns : List Word). slice_get ns place ≡ Some name) same at) is in absurd (omega arith))
+      (λ text r h w. let short = told_within sight.told others _ place name there h.5.0 (subst (λ (ns : List Word). slice_get ns place ≡ Some name) same at) is in absurd (omega arith)))
+      (λ one other whole. (0, lit< tt, sym (whole_check_too_long one sight ink result whole (subst (λ (ns : List Word). HasTooLong ns sight) (files_of_check words one names other asks) (place, name, there, at, is, long)))))
       (λ r h. (1, lit< tt, sym r)) (λ r h others. (2, lit< tt, sym r))
+
+  pub words_refused : (names : List Word) → AsksForFiles words names → HasBadSchema names sight → Contains (3 ∷ 4 ∷ 7 ∷ 8 ∷ []) result
+  words_refused names asks bad = by_words words sight ink result end
+      (λ r no sees w. absurd (asks_command words names asks no)) (λ text r h sees w. absurd (no_files words h.0 names h.1 h.2 asks))
+      (λ others other whole. let same = subst (λ (ns : List Word). HasBadSchema ns sight) (files_of_job words others names other asks) bad in by_whole others sight ink result whole
+      (λ text r h w. absurd (done_is_read others sight text h same)) (λ text r h w. (0, lit< tt, sym r)) (λ text r h w. (1, lit< tt, sym r)) (λ text r h w. absurd (not_built_is_read others sight text h same)))
+      (λ one other whole. three_or_four (whole_check_refused one sight ink result whole (subst (λ (ns : List Word). HasBadSchema ns sight) (files_of_check words one names other asks) bad)))
+      (λ r h. (2, lit< tt, sym r)) (λ r h others. (3, lit< tt, sym r))
+    where
+      three_or_four : (result ≡ 3) ⊎ (result ≡ 4) → Contains (3 ∷ 4 ∷ 7 ∷ 8 ∷ []) result
+      three_or_four (inl r) = (0, lit< tt, sym r)
+      three_or_four (inr r) = (1, lit< tt, sym r)
 
   pub words_plain : (names : List Word) → AsksFor words names → ArePlain names sight → result ≡ 10 → ⊥
   words_plain names asks plain e = by_not_built (words_not_built e)
@@ -117,31 +189,61 @@ module _ (words : List Word) (sight : Sight) (ink : Ink) (result : ℕ) (end : W
       by_not_built (inl other) = not_both words other.1.0 names other.1.1 other.1.2 asks
       by_not_built (inr built) = plain_built names sight built.2.0 plain (subst (λ (ns : List Word). IsNotBuilt ns sight built.2.0) (one_job words built.0 names built.1 asks) built.2.1)
 
+  pub words_check_built : (name : Word) → AsksToCheck words name → result ≡ 10 → ⊥
+  words_check_built name asks e = by_not_built (words_not_built e)
+    where
+      by_not_built : Shows ink (AsksForOther words) ⊎ ((names : List Word) × AsksFor words names × Shows ink (IsNotBuilt names sight)) → ⊥
+      by_not_built (inl other) = not_checked words other.1.0 name other.1.1 other.1.2 asks
+      by_not_built (inr built) = job_or_check words built.0 name built.1 asks
+
 -- a job with one client ends as its command
 pub command_ends : (settings : Settings) (schema schedule client : List ℕ) (sight : Sight) (ink : Ink) (result : ℕ) → JobEnds (names_of schema schedule client) sight ink result → CommandEnds (replay settings schema schedule (client ∷ [])) sight ink result
 command_ends settings schema schedule client sight ink result h = record { told = by_told h.told; asked = h.asked }
   where
     by_told : ((status : ℕ) × (text : List ℕ) × JobOwes (names_of schema schedule client) sight status text × Tells ink status text result) ⊎ ((result ≡ 8) × IsSilent ink)
-        → ((status : ℕ) × (text : List ℕ) × JobOwes (names_of schema schedule client) sight status text × Tells ink status text result) ⊎ ((result ≡ 8) × IsSilent ink × ((names : List Word) × (Some (names_of schema schedule client) ≡ Some names)))
+        → ((status : ℕ) × (text : List ℕ) × JobOwes (names_of schema schedule client) sight status text × Tells ink status text result) ⊎ ((result ≡ 8) × IsSilent ink × Unit {0})
     by_told (inl told) = inl told
-    by_told (inr silent) = inr (silent.0, silent.1, (names_of schema schedule client, refl))
+    by_told (inr silent) = inr (silent.0, silent.1, tt)
+
+-- a check ends as its command
+pub check_ends : (schema : List ℕ) (sight : Sight) (ink : Ink) (result : ℕ) → CheckEnds schema sight ink result → CommandEnds (check schema) sight ink result
+check_ends schema sight ink result h = record { told = by_told h.told; asked = h.asked }
+  where
+    by_told : ((status : ℕ) × (text : List ℕ) × CheckOwes schema sight status text × Tells ink status text result) ⊎ ((result ≡ 8) × IsSilent ink)
+        → ((status : ℕ) × (text : List ℕ) × CheckOwes schema sight status text × Tells ink status text result) ⊎ ((result ≡ 8) × IsSilent ink × Unit {0})
+    by_told (inl told) = inl told
+    by_told (inr silent) = inr (silent.0, silent.1, tt)
+
+-- a command that isn't built tells so
+pub unbuilt_ends : (command : Command) (sight : Sight) (ink : Ink) (result : ℕ) → task_of command ≡ unbuilt → SeesNothing sight → Tells ink 10 (not_built_line command) result → CommandEnds command sight ink result
+unbuilt_ends command sight ink result none sees tells = record {
+  told = inl (10, not_built_line command, subst (λ (t : Task). CommandOwes command t sight 10 (not_built_line command)) (sym none) (refl, refl, sees), tells);
+  asked = subst (λ (t : Task). TaskAsks t sight) (sym none) sees.0;
+}
+
+-- a replay without exactly one client isn't built
+pub not_one_client : (settings : Settings) (schema schedule : List ℕ) (clients : List (Bor Word)) → (length clients ≡ 1 → ⊥) → task_of (replay settings schema schedule (texts clients)) ≡ unbuilt
+not_one_client settings schema schedule [] other = refl
+not_one_client settings schema schedule (c ∷ []) other = absurd (other refl)
+not_one_client settings schema schedule (c ∷ d ∷ clients) other = refl
 
 -- words end as the command that they ask for
 pub words_end : (words : List Word) (command : Command) (sight : Sight) (ink : Ink) (result : ℕ) → IsCommandLine words command → CommandEnds command sight ink result → WordsEnd words sight ink result
 words_end words command sight ink result is h = by_told h.told
   where
-    by_told : ((status : ℕ) × (text : List ℕ) × CommandOwes command (job_of command) sight status text × Tells ink status text result) ⊎ ((result ≡ 8) × IsSilent ink × ((names : List Word) × (job_of command ≡ Some names)))
+    by_told : ((status : ℕ) × (text : List ℕ) × CommandOwes command (task_of command) sight status text × Tells ink status text result) ⊎ ((result ≡ 8) × IsSilent ink × IsBuilt (task_of command))
         → WordsEnd words sight ink result
     by_told (inl told) = inl (told.0, told.1, inr (command, is, told.2), told.3)
-    by_told (inr silent) = inr (silent.0, silent.1, (silent.2.0, (command, is, silent.2.1)))
+    by_told (inr silent) = inr (silent.0, silent.1, (command, is, silent.2))
 
 -- words ask for files as the command that they ask for
-pub words_asked : (words : List Word) (command : Command) (sight : Sight) → IsCommandLine words command → MatchOption (job_of command) (sight.asked_then ≡ sight.asked) (AsksFirst sight) → AsksInOrder words sight
-words_asked words command sight is asked = by_option (job_of command) refl asked
+pub words_asked : (words : List Word) (command : Command) (sight : Sight) → IsCommandLine words command → TaskAsks (task_of command) sight → AsksInOrder words sight
+words_asked words command sight is asked = by_task (task_of command) refl asked
   where
-    by_option : (o : Option (List Word)) → job_of command ≡ o → MatchOption o (sight.asked_then ≡ sight.asked) (AsksFirst sight) → AsksInOrder words sight
-    by_option None e h = inr h
-    by_option (Some names) e h = inl (names, (command, is, e), h)
+    by_task : (task : Task) → task_of command ≡ task → TaskAsks task sight → AsksInOrder words sight
+    by_task unbuilt e h = inr h
+    by_task (replays names) e h = inl (names, inl (command, is, e), h)
+    by_task (checks name) e h = inl (name ∷ [], inr (name, (command, is, e), refl), h)
 
 -- one client, lent
 pub one_lent : (clients : List (Bor Word)) (d : Bor Word) → length clients ≡ 1 → texts clients ≡ (get_or clients 0 d).now ∷ []

@@ -1,9 +1,12 @@
+pub mod BadSchema
+pub mod CheckLemmas
 pub mod CommandLemmas
 pub mod DecimalLemmas
 pub mod JobLemmas
 pub mod PlainClientLemmas
 pub mod PlainFits
 pub mod PlainRunLemmas
+pub mod PlainShape
 pub mod ReadingLemmas
 pub mod TellingLemmas
 pub mod CommandLineMeaning

@@ -112,24 +112,24 @@ same_number : (a b : ℕ) → eqb a b ≡ true → b ≡ a
 same_number a b h = grind (arith, nat_tests)
 
 -- each operation of the steps is answered by the plain database, and makes a new object
-pub none_wrong : (d c f : List ℕ) (steps : List PlainStep) (next first : ℕ) (db mid : Database) (done : List (Op × Reply)) (made : List (ℕ × ℕ)) → map (λ (x : Op × Reply). x.0) done ≡ numbered next steps → run (schema_of d c f) db done ≡ Some mid → AllBelow made next → wrong_reply (schema_of d c f) db made first done ≡ None
-none_wrong d c f [] next first db mid [] made e r h = refl
-none_wrong d c f [] next first db mid (x ∷ done) made e r h = cc
-none_wrong d c f (New number ∷ steps) next first db mid [] made e r h = cc
-none_wrong d c f (Get id ∷ steps) next first db mid [] made e r h = cc
-none_wrong d c f (New number ∷ steps) next first db mid ((o, told) ∷ done) made e r h =
+pub none_wrong : (d c f : List ℕ) (est : Option ℕ) (steps : List PlainStep) (next first : ℕ) (db mid : Database) (done : List (Op × Reply)) (made : List (ℕ × ℕ)) → map (λ (x : Op × Reply). x.0) done ≡ numbered next steps → run (schema_of d c f est) db done ≡ Some mid → AllBelow made next → wrong_reply (schema_of d c f est) db made first done ≡ None
+none_wrong d c f est [] next first db mid [] made e r h = refl
+none_wrong d c f est [] next first db mid (x ∷ done) made e r h = cc
+none_wrong d c f est (New number ∷ steps) next first db mid [] made e r h = cc
+none_wrong d c f est (Get id ∷ steps) next first db mid [] made e r h = cc
+none_wrong d c f est (New number ∷ steps) next first db mid ((o, told) ∷ done) made e r h =
     let is : o ≡ operation_of next (New number) = cc in
     let others : map (λ (x : Op × Reply). x.0) done ≡ numbered (next + 1) steps = cc in
-    subst (λ (p : Op). wrong_reply (schema_of d c f) db made first ((p, told) ∷ done) ≡ None) (sym is)
-    (by_reply told (subst (λ (p : Op). run (schema_of d c f) db ((p, told) ∷ done) ≡ Some mid) is r)
-    (λ m at ran. none_wrong d c f steps (next + 1) (first + 1) (answer (schema_of d c f) db (operation_of next (New number))).1 mid done (made ++ (0, m) ∷ []) others ran (below_more made next m at h)))
+    subst (λ (p : Op). wrong_reply (schema_of d c f est) db made first ((p, told) ∷ done) ≡ None) (sym is)
+    (by_reply told (subst (λ (p : Op). run (schema_of d c f est) db ((p, told) ∷ done) ≡ Some mid) is r)
+    (λ m at ran. none_wrong d c f est steps (next + 1) (first + 1) (answer (schema_of d c f est) db (operation_of next (New number))).1 mid done (made ++ (0, m) ∷ []) others ran (below_more made next m at h)))
   where
-    by_reply : (told : Reply) → run (schema_of d c f) db ((operation_of next (New number), told) ∷ done) ≡ Some mid → ((m : ℕ) → m ≡ next → run (schema_of d c f) (answer (schema_of d c f) db (operation_of next (New number))).1 done ≡ Some mid → wrong_reply (schema_of d c f) (answer (schema_of d c f) db (operation_of next (New number))).1 (made ++ (0, m) ∷ []) (first + 1) done ≡ None) → wrong_reply (schema_of d c f) db made first ((operation_of next (New number), told) ∷ done) ≡ None
+    by_reply : (told : Reply) → run (schema_of d c f est) db ((operation_of next (New number), told) ∷ done) ≡ Some mid → ((m : ℕ) → m ≡ next → run (schema_of d c f est) (answer (schema_of d c f est) db (operation_of next (New number))).1 done ≡ Some mid → wrong_reply (schema_of d c f est) (answer (schema_of d c f est) db (operation_of next (New number))).1 (made ++ (0, m) ∷ []) (first + 1) done ≡ None) → wrong_reply (schema_of d c f est) db made first ((operation_of next (New number), told) ∷ done) ≡ None
     by_reply (reply.Made m) r rest =
-        let after = (answer (schema_of d c f) db (operation_of next (New number))).1 in
-        let t = taken (eqb next m) (run (schema_of d c f) after done) mid r in
+        let after = (answer (schema_of d c f est) db (operation_of next (New number))).1 in
+        let t = taken (eqb next m) (run (schema_of d c f est) after done) mid r in
         let at = same_number next m t.0 in
-        (λ i. cond (t.0 i && not (new_made made next m at h i)) (wrong_reply (schema_of d c f) after (made ++ (0, m) ∷ []) (first + 1) done) (Some first))
+        (λ i. cond (t.0 i && not (new_made made next m at h i)) (wrong_reply (schema_of d c f est) after (made ++ (0, m) ∷ []) (first + 1) done) (Some first))
         ∙ rest m at t.1
     by_reply (reply.Row row) r rest = let no : None ≡ Some mid = r in cc
     by_reply reply.Done r rest = let no : None ≡ Some mid = r in cc
@@ -139,25 +139,25 @@ none_wrong d c f (New number ∷ steps) next first db mid ((o, told) ∷ done) m
     by_reply (reply.At key id) r rest = let no : None ≡ Some mid = r in cc
     by_reply reply.End r rest = let no : None ≡ Some mid = r in cc
     by_reply (reply.Count n) r rest = let no : None ≡ Some mid = r in cc
-none_wrong d c f (Get id ∷ steps) next first db mid ((o, told) ∷ done) made e r h =
+none_wrong d c f est (Get id ∷ steps) next first db mid ((o, told) ∷ done) made e r h =
     let is : o ≡ operation_of next (Get id) = cc in
     let others : map (λ (x : Op × Reply). x.0) done ≡ numbered next steps = cc in
-    let ran : run (schema_of d c f) db ((operation_of next (Get id), told) ∷ done) ≡ Some mid = subst (λ (p : Op). run (schema_of d c f) db ((p, told) ∷ done) ≡ Some mid) is r in
-    let found = (answer (schema_of d c f) db (operation_of next (Get id))).0 in
-    let t = taken (same_reply found told) (run (schema_of d c f) db done) mid ran in
-    subst (λ (p : Op). wrong_reply (schema_of d c f) db made first ((p, told) ∷ done) ≡ None) (sym is)
-    (ap (λ (b : Bool). cond (b && true) (wrong_reply (schema_of d c f) db (made ++ []) (first + 1) done) (Some first)) t.0
-    ∙ none_wrong d c f steps next (first + 1) db mid done (made ++ []) others t.1 (below_same made next h))
+    let ran : run (schema_of d c f est) db ((operation_of next (Get id), told) ∷ done) ≡ Some mid = subst (λ (p : Op). run (schema_of d c f est) db ((p, told) ∷ done) ≡ Some mid) is r in
+    let found = (answer (schema_of d c f est) db (operation_of next (Get id))).0 in
+    let t = taken (same_reply found told) (run (schema_of d c f est) db done) mid ran in
+    subst (λ (p : Op). wrong_reply (schema_of d c f est) db made first ((p, told) ∷ done) ≡ None) (sym is)
+    (ap (λ (b : Bool). cond (b && true) (wrong_reply (schema_of d c f est) db (made ++ []) (first + 1) done) (Some first)) t.0
+    ∙ none_wrong d c f est steps next (first + 1) db mid done (made ++ []) others t.1 (below_same made next h))
 
 some_of : (o : Option Database) → IsSome o → (mid : Database) × (o ≡ Some mid)
 some_of None h = let no : false ≡ true = h in absurd (false≢true no)
 some_of (Some mid) h = (mid, refl)
 
 -- the journal of such a client is legal
-pub journal_is_legal : (d c f : List ℕ) (steps : List PlainStep) (done : List (Op × Reply)) → AreAnswered (schema_of d c f) steps done → IsLegal (schema_of d c f) (journal_of done)
-journal_is_legal d c f steps done a =
-    let ran = some_of (run (schema_of d c f) (empty 1) done) a.runs in
-    ap (λ (w : Option ℕ). option_map_or (legality.Illegal 1) (option_map why.Reply w) legality.Legal) (none_wrong d c f steps 1 1 (empty 1) ran.0 done [] a.operations ran.1 tt)
+pub journal_is_legal : (d c f : List ℕ) (est : Option ℕ) (steps : List PlainStep) (done : List (Op × Reply)) → AreAnswered (schema_of d c f est) steps done → IsLegal (schema_of d c f est) (journal_of done)
+journal_is_legal d c f est steps done a =
+    let ran = some_of (run (schema_of d c f est) (empty 1) done) a.runs in
+    ap (λ (w : Option ℕ). option_map_or (legality.Illegal 1) (option_map why.Reply w) legality.Legal) (none_wrong d c f est steps 1 1 (empty 1) ran.0 done [] a.operations ran.1 tt)
 
 -- the steps before a place are answered
 pub record Answered (schema : Schema) (steps : List PlainStep) (index : ℕ) (done : List (Op × Reply)) (db : Database) (next : ℕ) : Type 0 where

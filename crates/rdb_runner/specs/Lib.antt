@@ -6,6 +6,7 @@ pub mod PlainSchedule
 pub mod PlainSchema
 pub mod Promise
 pub mod Reading
+pub mod SchemaFile
 pub mod Telling
 pub mod Command
 pub mod CommandLine

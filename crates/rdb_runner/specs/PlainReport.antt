@@ -5,6 +5,7 @@ use Rattle.rdb_base.specs.declared.operation.Reply.{Reply}
 use Rattle.rdb_base.specs.declared.journal.Entry.{Entry}
 use Rattle.rdb_base.specs.declared.journal.Entry.TheVariants.{Commit, Closed}
 use Rattle.rdb_schema.specs.declared.schema.Schema.{Schema}
+use Rattle.rdb_ddl.specs.Read.{IsRead}
 use Rattle.rdb_model.specs.Database.{empty}
 use Rattle.rdb_model.specs.Story.{run}
 use Rattle.rdb_model.specs.Journal.{IsLegal}
@@ -13,7 +14,7 @@ use Rattle.rdb_journal.specs.Report.{report}
 use Rattle.rdb_runner.specs.declared.plain_client.PlainStep.{PlainStep}
 use Rattle.rdb_runner.specs.PlainClient.{IsClientOf, numbered}
 use Rattle.rdb_runner.specs.PlainSchedule.{is_plain_schedule}
-use Rattle.rdb_runner.specs.PlainSchema.{IsSchemaText, schema_of}
+use Rattle.rdb_runner.specs.PlainSchema.{IsPlainWith}
 
 -- the journal of the one client: its first transaction commits first, and then the client is closed
 abbrev pub journal_of : List (Op × Reply) → List Entry
@@ -39,11 +40,11 @@ pub record IsPrinted (schema : Schema) (steps : List PlainStep) (text : List ℕ
 
 -- the report of these three texts
 pub record IsReportOf (schema_text schedule_text client_text text : List ℕ) : Type 0 where
-  pub database : List ℕ
+  pub schema : Schema
   pub class : List ℕ
-  pub field : List ℕ
   pub steps : List PlainStep
-  pub schema_read : IsSchemaText schema_text database class field
+  pub schema_read : IsRead schema_text schema
+  pub schema_plain : IsPlainWith schema class
   pub schedule_read : is_plain_schedule schedule_text ≡ true
   pub client_read : IsClientOf class client_text steps
-  pub printed : IsPrinted (schema_of database class field) steps text
+  pub printed : IsPrinted schema steps text

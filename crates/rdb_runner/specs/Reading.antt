@@ -1,5 +1,5 @@
 -- What a call saw of the files, and what it says of them.
-use Rattle.std.specs.Prelude.{◌≡◌, ℕ, ◌+◌, ◌<◌, ◌≤◌, ◌⊎◌, List, [], ◌∷◌, ◌++◌, length, take, Option, Result, Ok, Err, IfSome, slice_get, Some}
+use Rattle.std.specs.Prelude.{◌≡◌, ℕ, ◌+◌, ◌<◌, ◌≤◌, ◌⊎◌, List, [], ◌∷◌, ◌++◌, length, take, codes, Option, Result, Ok, Err, IfSome, slice_get, Some}
 use Rattle.std.specs.Option.{option_map}
 use Rattle.rdb_base.specs.Outside.{Rose}
 use Rattle.rdb_runner.specs.declared.reading.Unread.{Unread}
@@ -55,3 +55,21 @@ AreReadOf sight names (Ok texts) = AreBytesOf sight.told names texts × Asks sig
 AreReadOf sight names (Err (At place)) =
     (name : List ℕ) × (texts : List (List ℕ)) × (slice_get names place ≡ Some name) × AreBytesOf sight.told (take place names) texts × CannotRead sight name × Asks sight (take (place + 1) names)
 AreReadOf sight names (Err NoMemory) = (asked : ℕ) × (asked ≤ length names) × Asks sight (take asked names) × (sight.faults_then ≡ sight.faults)
+
+-- every file was read in this call, in order, and no read failed
+abbrev pub AllRead : Sight → List (List ℕ) → List (List ℕ) → Type 0
+AllRead sight names texts = AreBytesOf sight.told names texts × Asks sight names × (sight.faults_then ≡ sight.faults)
+
+-- unreadable: the first file that can't be read is named, and nothing behind it was asked
+abbrev pub IsUnreadable : List (List ℕ) → Sight → List ℕ → Type 0
+IsUnreadable names sight text =
+    (place : ℕ) × (name : List ℕ) × (texts : List (List ℕ)) × (slice_get names place ≡ Some name) × AreBytesOf sight.told (take place names) texts
+    × CannotRead sight name × Asks sight (take (place + 1) names) × (text ≡ codes "regiondb: cannot read " ++ name ++ codes "\n")
+
+-- the names that a call asked are the first of these
+abbrev pub AsksFirst : Sight → List (List ℕ) → Type 0
+AsksFirst sight names = (asked : ℕ) × (asked ≤ length names) × Asks sight (take asked names)
+
+-- one of the files is told to be longer than the limit
+abbrev pub HasTooLong : List (List ℕ) → Sight → Type 0
+HasTooLong names sight = (place : ℕ) × (name : List ℕ) × (there : List ℕ) × (slice_get names place ≡ Some name) × (sight.told name ≡ Some there) × (FILE_LIMIT < length there)

@@ -36,3 +36,7 @@ IsSilent ink = (ink.after ≡ ink.before) × IsCalm ink
 -- the text was written and the status is its own, or the status is 7 and the text is cut off
 abbrev pub Tells : Ink → ℕ → List ℕ → ℕ → Type 0
 Tells ink status text result = ((result ≡ status) × Writes ink text) ⊎ ((result ≡ 7) × IsCutOff ink text)
+
+-- the text was written whole, and it is due by this fact
+abbrev pub Shows : Ink → (List ℕ → Type 0) → Type 0
+Shows ink Due = (text : List ℕ) × Due text × Writes ink text

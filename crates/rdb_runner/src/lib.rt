@@ -1,6 +1,7 @@
 //! The commands of the program, over files and a sink that the caller gives.
 #![tactic(auto)]
 
+pub mod check;
 pub mod command_line;
 mod decimal;
 mod front;
@@ -11,6 +12,7 @@ mod plain_schema;
 pub mod reading;
 pub mod region;
 pub mod replay;
+pub mod schema_reading;
 mod telling;
 #[cfg(test)]
 mod tests;

@@ -5,49 +5,17 @@ ghost use Rattle.std.specs.List.{AllByRecursion};
 ghost use Rattle.rdb_journal.specs.Lines.{StepNamesExist, NamesExist};
 ghost use Rattle.rdb_runner.specs.PlainClient.{IsStep, operation_of, made_by};
 ghost use Rattle.rdb_runner.specs.PlainReport.{AreAnswered, IsJournalOf};
-ghost use Rattle.rdb_runner.specs.PlainSchema.{schema_of, IsPlain};
+ghost use Rattle.rdb_runner.specs.PlainSchema.{IsPlain};
 
 use crate::plain_client::PlainStep;
-use crate::plain_schema::PlainSchema;
 use rdb_base::journal::{Done, Entry, Journal, Story};
 use rdb_base::list::{List, NoMemory};
 use rdb_base::operation::Op;
 use rdb_base::order::order_is_total;
-use rdb_base::text::Text;
 use rdb_base::value::{Leaf, Value};
 use rdb_model::db::Db;
-use rdb_schema::schema::{Class, Field, FieldType, Schema};
+use rdb_schema::schema::Schema;
 use std::alloc::Global;
-
-/// The schema of these names.
-pub fn build_schema(alloc: Global, names: &PlainSchema<'_>) -> Result<Schema, NoMemory>
-    ensures { IfOk result (λ schema. schema ≡ schema_of names.now.database.now names.now.class.now names.now.field.now) }
-{
-    let ty = FieldType::Num {
-        bytes: 4,
-        signed: false,
-    };
-    let mut fields = List::new(alloc);
-    fields.push(Field {
-        name: Text::of(alloc, names.field)?,
-        ty,
-    })?;
-    let class = Class {
-        name: Text::of(alloc, names.class)?,
-        fields,
-        autoid: true,
-        estimate: None,
-        indexes: List::new(alloc),
-        events: List::new(alloc),
-    };
-    let mut classes = List::new(alloc);
-    classes.push(class)?;
-    Ok(Schema {
-        name: Text::of(alloc, names.database)?,
-        groups: List::new(alloc),
-        classes,
-    })
-}
 
 /// The operation that a step is. A row that is made has the id `made`.
 fn operation(alloc: Global, step: PlainStep, made: u64) -> Result<Op, NoMemory>

@@ -37,8 +37,8 @@ impl From<AllocError> for Unread {
     }
 }
 
-/// One file's bytes; `place` is its place among the names.
-fn read_one<F: Files>(
+/// One file's bytes; `place` is its place among the names. The cost grows with the file.
+pub fn read_one<F: Files>(
     alloc: Global,
     files: &mut F,
     name: &str,

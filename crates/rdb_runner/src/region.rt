@@ -1,13 +1,15 @@
 //! The top call: the words of a command line in, a status out. It touches the caller's files and sink alone.
 
-ghost use Rattle.std.specs.Prelude.{◌≡◌, ◌≢◌, ◌⊎◌, ◌<◌, ◌≤◌, ℕ, List, [], ◌∷◌, map, Contains, string_bytes, IfOk};
-ghost use Rattle.rdb_runner.specs.Command.{not_built_line, IsNoCommandLine, WordsEnd, CommandEnds, AsksFor, AsksForOther, AsksInOrder, IsCutShort, SeesNothing, usage_line};
-ghost use Rattle.rdb_runner.specs.CommandLine.{Word, IsCommandLine, command_of, IsWithinLimits};
+ghost use Rattle.std.specs.Prelude.{◌≡◌, ◌≢◌, ◌⊎◌, ◌<◌, ◌≤◌, ℕ, List, [], ◌∷◌, map, length, Contains, string_bytes, IfOk, IfSome, IfNone};
+ghost use Rattle.rdb_runner.specs.Command.{IsNoCommandLine, WordsEnd, CommandEnds, AsksFor, AsksToCheck, AsksForFiles, AsksForOther, AsksInOrder, IsCutShort, SeesNothing, usage_line};
+ghost use Rattle.rdb_runner.specs.CommandLine.{Word, IsCommandLine, command_of, IsWithinLimits, texts};
 ghost use Rattle.rdb_runner.specs.Job.{files_of};
-ghost use Rattle.rdb_runner.specs.Promise.{JobEnds, Shows, IsDone, IsUnreadable, IsNotBuilt, HasTooLong, ArePlain, names_of};
-ghost use Rattle.rdb_runner.specs.Reading.{sight_of};
-ghost use Rattle.rdb_runner.specs.Telling.{Tells, Writes, IsSilent, ink_of};
+ghost use Rattle.rdb_runner.specs.Promise.{JobEnds, IsDone, IsNotBuilt, ArePlain, names_of};
+ghost use Rattle.rdb_runner.specs.Reading.{sight_of, IsUnreadable, HasTooLong};
+ghost use Rattle.rdb_runner.specs.SchemaFile.{IsChecked, IsBadSchema, HasBadSchema};
+ghost use Rattle.rdb_runner.specs.Telling.{Writes, IsSilent, ink_of, Shows};
 
+use crate::check::check;
 use crate::command_line::{self, CommandLine, Settings};
 use crate::replay::{Job, replay};
 use crate::telling::{NO_MEMORY, tell};
@@ -58,16 +60,14 @@ fn replay_job<F: Files, K: Sink>(
     }
 }
 
-/// Tells that a command isn't built.
-fn not_built<K: Sink>(out: &mut K, line: &CommandLine<'_>) -> u8
-    ensures { Tells (ink_of K.written K.faults out.old out.new) 10 (not_built_line (command_of line.now)) result }
+/// The client, where there is exactly one.
+fn only_client<'a>(clients: &[&'a str]) -> Option<&'a str>
+    ensures some { IfSome result (λ client. texts clients.now ≡ client.now ∷ []) }
+    ensures none { IfNone result (length clients.now ≢ 1) }
 {
-    match line {
-        CommandLine::Replay { .. } => tell(out, 10, b"regiondb: not built replay\n"),
-        CommandLine::Run { .. } => tell(out, 10, b"regiondb: not built run\n"),
-        CommandLine::Audit { .. } => tell(out, 10, b"regiondb: not built audit\n"),
-        CommandLine::Check { .. } => tell(out, 10, b"regiondb: not built check\n"),
-        CommandLine::Job { .. } => tell(out, 10, b"regiondb: not built job\n"),
+    match clients {
+        [client] => Some(client),
+        _ => None,
     }
 }
 
@@ -81,18 +81,21 @@ fn end_command<F: Files, K: Sink>(
     requires { IsWithinLimits (command_of line.now) }
     ensures { CommandEnds (command_of line.now) (sight_of F.told F.asked F.faults files.old files.new) (ink_of K.written K.faults out.old out.new) result }
 {
-    if let CommandLine::Replay {
-        settings,
-        schema,
-        schedule,
-        clients,
-    } = line
-    {
-        if let [client] = clients.as_slice() {
-            return replay_job(alloc, *settings, schema, schedule, client, files, out);
-        }
+    match line {
+        CommandLine::Replay {
+            settings,
+            schema,
+            schedule,
+            clients,
+        } => match only_client(clients.as_slice()) {
+            Some(client) => replay_job(alloc, *settings, schema, schedule, client, files, out),
+            None => tell(out, 10, b"regiondb: not built replay\n"),
+        },
+        CommandLine::Check { schema } => check(alloc, schema, files, out),
+        CommandLine::Run { .. } => tell(out, 10, b"regiondb: not built run\n"),
+        CommandLine::Audit { .. } => tell(out, 10, b"regiondb: not built audit\n"),
+        CommandLine::Job { .. } => tell(out, 10, b"regiondb: not built job\n"),
     }
-    not_built(out, line)
 }
 
 /// What words end with.
@@ -107,8 +110,9 @@ fn end_words<F: Files, K: Sink>(alloc: Global, words: &[String], files: &mut F, 
 }
 
 /// Does what the words of a command line ask for, over these files and this sink, and answers the status: 0 where all is
-/// done, 2 where the words are no command line, 3 where a file can't be read, 7 where a write failed, 8 where memory was
-/// wanting, and 10 where the command or a file's form isn't built yet. It always returns. The cost grows with the files.
+/// done, 2 where the words are no command line, 3 where a file can't be read, 4 where a schema breaks the grammar or a
+/// rule, 7 where a write failed, 8 where memory was wanting, and 10 where the command or a file's form isn't built yet.
+/// It always returns. The cost grows with the files.
 pub fn region_main<F: Files, K: Sink, G: Gate + Sync>(
     alloc: Global,
     words: &[String],
@@ -116,11 +120,14 @@ pub fn region_main<F: Files, K: Sink, G: Gate + Sync>(
     out: &mut K,
     _gate: &G,
 ) -> u8
-    ensures statuses { Contains (0 ∷ 2 ∷ 3 ∷ 7 ∷ 8 ∷ 10 ∷ []) result }
+    ensures statuses { Contains (0 ∷ 2 ∷ 3 ∷ 4 ∷ 7 ∷ 8 ∷ 10 ∷ []) result }
 
-    // 0: the text is the report of the job that the words ask for, and all of it was written.
-    ensures done { result ≡ 0 → (names : List Word) × AsksFor (map string_bytes words.now) names
-        × Shows (ink_of K.written K.faults out.old out.new) (IsDone names (sight_of F.told F.asked F.faults files.old files.new)) }
+    // 0: the text is the report of the job that the words ask for, or the canonical text of the schema that they ask to
+    // check, and all of it was written.
+    ensures done { result ≡ 0 → ((names : List Word) × AsksFor (map string_bytes words.now) names
+        × Shows (ink_of K.written K.faults out.old out.new) (IsDone names (sight_of F.told F.asked F.faults files.old files.new)))
+        ⊎ ((name : Word) × AsksToCheck (map string_bytes words.now) name
+        × Shows (ink_of K.written K.faults out.old out.new) (IsChecked name (sight_of F.told F.asked F.faults files.old files.new))) }
 
     // 2: exactly where the words are no command line. No file is read.
     ensures usage { result ≡ 2 → IsNoCommandLine (map string_bytes words.now) × Writes (ink_of K.written K.faults out.old out.new) usage_line
@@ -128,11 +135,17 @@ pub fn region_main<F: Files, K: Sink, G: Gate + Sync>(
     ensures no_command_line { IsNoCommandLine (map string_bytes words.now) → Contains (2 ∷ 7 ∷ []) result }
 
     // 3: exactly where a read failed or a file is too long.
-    ensures unreadable { result ≡ 3 → (names : List Word) × AsksFor (map string_bytes words.now) names
+    ensures unreadable { result ≡ 3 → (names : List Word) × AsksForFiles (map string_bytes words.now) names
         × Shows (ink_of K.written K.faults out.old out.new) (IsUnreadable names (sight_of F.told F.asked F.faults files.old files.new)) }
     ensures failed_read { F.faults files.old < F.faults files.new → Contains (3 ∷ 7 ∷ 8 ∷ []) result }
-    ensures too_long { (names : List Word) → AsksFor (map string_bytes words.now) names
+    ensures too_long { (names : List Word) → AsksForFiles (map string_bytes words.now) names
         → HasTooLong names (sight_of F.told F.asked F.faults files.old files.new) → Contains (3 ∷ 7 ∷ 8 ∷ []) result }
+
+    // 4: exactly where all files are read and the schema breaks the grammar of schemas or a rule, with its first fault.
+    ensures bad_schema { result ≡ 4 → (names : List Word) × AsksForFiles (map string_bytes words.now) names
+        × Shows (ink_of K.written K.faults out.old out.new) (IsBadSchema names (sight_of F.told F.asked F.faults files.old files.new)) }
+    ensures refused { (names : List Word) → AsksForFiles (map string_bytes words.now) names
+        → HasBadSchema names (sight_of F.told F.asked F.faults files.old files.new) → Contains (3 ∷ 4 ∷ 7 ∷ 8 ∷ []) result }
 
     // 10: a command that isn't built, or files that aren't all of the simplest form, and never for what is built.
     ensures not_built { result ≡ 10 → Shows (ink_of K.written K.faults out.old out.new) (AsksForOther (map string_bytes words.now))
@@ -140,6 +153,7 @@ pub fn region_main<F: Files, K: Sink, G: Gate + Sync>(
         × Shows (ink_of K.written K.faults out.old out.new) (IsNotBuilt names (sight_of F.told F.asked F.faults files.old files.new))) }
     ensures plain { (names : List Word) → AsksFor (map string_bytes words.now) names
         → ArePlain names (sight_of F.told F.asked F.faults files.old files.new) → result ≢ 10 }
+    ensures check_is_built { (name : Word) → AsksToCheck (map string_bytes words.now) name → result ≢ 10 }
 
     // 7: only where a write failed, and a prefix of what was due is written. 8: nothing is written.
     ensures interrupted { result ≡ 7 → IsCutShort (map string_bytes words.now) (sight_of F.told F.asked F.faults files.old files.new)

@@ -1,30 +1,35 @@
 //! The command `replay`: reads the files of a job, runs its client and writes the report.
 //! It touches the caller's files and sink alone.
 
-ghost use Rattle.std.specs.Prelude.{◌≡◌, ◌≢◌, ◌≤◌, ◌<◌, [], ◌∷◌, length, Contains, IfOk, Some, slice_get};
+ghost use Rattle.std.specs.Prelude.{◌≡◌, ◌≢◌, ◌≤◌, ◌<◌, ℕ, List, [], ◌∷◌, length, Contains, IfOk, Some, slice_get};
 ghost use Rattle.std.specs.List.{concat, AllByRecursion};
 ghost use Rattle.rdb_runner.specs.PlainClient.{IsStep};
 ghost use Rattle.rdb_runner.specs.PlainReport.{IsPrinted};
-ghost use Rattle.rdb_runner.specs.PlainSchema.{schema_of};
+ghost use Rattle.rdb_ddl.specs.Read.{IsRead};
+ghost use Rattle.rdb_runner.specs.PlainSchema.{IsPlain};
+ghost use Rattle.rdb_runner.specs.SchemaFile.{IsBadSchema, HasBadSchema};
 ghost use Rattle.rdb_runner.specs.Job.{files_of};
-ghost use Rattle.rdb_runner.specs.Promise.{IsWork, IsJobWork, AsksFirst, JobEnds, names_of, Shows, IsDone, IsUnreadable, IsNotBuilt, IsInterrupted, HasTooLong, ArePlain};
-ghost use Rattle.rdb_runner.specs.Reading.{sight_of};
-ghost use Rattle.rdb_runner.specs.Telling.{IsSilent, ink_of};
+ghost use Rattle.rdb_runner.specs.Promise.{IsWork, IsJobWork, JobEnds, names_of, IsDone, IsNotBuilt, IsInterrupted, ArePlain};
+ghost use Rattle.rdb_runner.specs.Reading.{sight_of, AsksFirst, IsUnreadable, HasTooLong};
+ghost use Rattle.rdb_runner.specs.Telling.{IsSilent, ink_of, Shows};
 
 use crate::plain_client::{PlainStep, read_plain_client};
-use crate::plain_run::{build_schema, plain_journal};
+use crate::plain_run::plain_journal;
 use crate::plain_schedule::is_plain_schedule;
-use crate::plain_schema::{PlainSchema, plain_schema};
+use crate::plain_schema::plain_class;
 use crate::reading::{Unread, read_all};
-use crate::telling::{NO_MEMORY, tell_lines, tell_name};
+use crate::schema_reading::{NoSchema, schema_in};
+use crate::telling::{NO_MEMORY, tell_fault, tell_lines, tell_name};
 use rdb_base::files::Files;
 use rdb_base::identity::Manager;
 use rdb_base::list::{List, NoMemory};
 use rdb_base::sink::Sink;
 use rdb_base::text::{Text, Texts};
+use rdb_ddl::fault::DdlFault;
 use rdb_journal::endings::End;
 use rdb_journal::entries::Lines;
 use rdb_journal::summary::report;
+use rdb_schema::schema::Schema;
 use std::alloc::{AllocError, AllocFailed, Global};
 
 /// A region with its manager and its pages, a schema, a schedule and the clients, each by the name of its file.
@@ -38,9 +43,11 @@ pub struct Job {
     pub clients: Texts,
 }
 
-/// Why there is no report: the place of the first text that isn't of the simplest form, or want of memory.
+/// Why there is no report: the schema's first fault, the place of the first text that isn't of the simplest form, or
+/// want of memory.
 #[derive(Clone, Copy, Debug, PartialEq, Eq)]
 enum NoReport {
+    Refused(DdlFault),
     Other(usize),
     NoMemory,
 }
@@ -66,50 +73,66 @@ impl From<AllocError> for NoReport {
 }
 
 /// The lines of the report of a schema and a client, once their texts are read.
-fn lines_of(
-    alloc: Global,
-    names: &PlainSchema<'_>,
-    steps: &List<PlainStep>,
-) -> Result<Lines, NoMemory>
+fn lines_of(alloc: Global, schema: &Schema, steps: &List<PlainStep>) -> Result<Lines, NoMemory>
+    requires plain { IsPlain schema.now }
     requires few { length steps.now ≤ 1000 }
     requires each { AllByRecursion IsStep steps.now }
-    ensures { IfOk result (λ lines. IsPrinted (schema_of names.now.database.now names.now.class.now names.now.field.now) steps.now (concat lines)) }
+    ensures { IfOk result (λ lines. IsPrinted schema.now steps.now (concat lines)) }
 {
-    let schema = build_schema(alloc, names)?;
-    let journal = plain_journal(alloc, &schema, steps)?;
+    let journal = plain_journal(alloc, schema, steps)?;
     let mut ends = List::new(alloc);
     ends.push(End::Done)?;
     let mut notes = List::new(alloc);
     notes.push(List::new(alloc))?;
-    report(alloc, &schema, &journal, &ends, &notes)
+    report(alloc, schema, &journal, &ends, &notes)
 }
 
-/// The lines of the report of these texts, where each is of the simplest form. The cost grows with the texts.
+/// The lines of the report of a schema that was read and these texts, where each is of the simplest form. The cost grows
+/// with the texts.
+fn report_over(
+    alloc: Global,
+    schema: &Schema,
+    schedule: &[u8],
+    client: &[u8],
+) -> Result<Lines, NoReport>
+    ensures { (text : List ℕ) → IsRead text schema.now → IsWork text schedule.now client.now result }
+{
+    let Some(class) = plain_class(schema) else {
+        return Err(NoReport::Other(0));
+    };
+    if !is_plain_schedule(schedule) {
+        return Err(NoReport::Other(1));
+    }
+    let Some(steps) = read_plain_client(alloc, class.as_bytes(), client)? else {
+        return Err(NoReport::Other(2));
+    };
+    Ok(lines_of(alloc, schema, &steps)?)
+}
+
+/// The lines of the report of these texts, where the first declares a schema and each is of the simplest form. The cost
+/// grows with the texts.
 fn report_of(
     alloc: Global,
     schema: &[u8],
     schedule: &[u8],
     client: &[u8],
 ) -> Result<Lines, NoReport>
+    requires { length schema.now ≤ 16777216 }
     ensures { IsWork schema.now schedule.now client.now result }
 {
-    let Some(names) = plain_schema(schema) else {
-        return Err(NoReport::Other(0));
-    };
-    if !is_plain_schedule(schedule) {
-        return Err(NoReport::Other(1));
+    match schema_in(alloc, schema) {
+        Ok(schema) => report_over(alloc, &schema, schedule, client),
+        Err(NoSchema::Refused(fault)) => Err(NoReport::Refused(fault)),
+        Err(NoSchema::NoMemory) => Err(NoReport::NoMemory),
     }
-    let Some(steps) = read_plain_client(alloc, names.class.as_bytes(), client)? else {
-        return Err(NoReport::Other(2));
-    };
-    Ok(lines_of(alloc, &names, &steps)?)
 }
 
-/// Why a job ends without its report: the place of the first file that can't be read, or that isn't of the simplest
-/// form, or want of memory.
+/// Why a job ends without its report: the place of the first file that can't be read, the schema's first fault, the place
+/// of the first file that isn't of the simplest form, or want of memory.
 #[derive(Clone, Copy, Debug, PartialEq, Eq)]
 enum Halt {
     Unreadable(usize),
+    Refused(DdlFault),
     NotBuilt(usize),
     NoMemory,
 }
@@ -140,6 +163,7 @@ fn work<F: Files>(
         client.as_slice(),
     ) {
         Ok(lines) => Ok(lines),
+        Err(NoReport::Refused(fault)) => Err(Halt::Refused(fault)),
         Err(NoReport::Other(place)) => Err(Halt::NotBuilt(place)),
         Err(NoReport::NoMemory) => Err(Halt::NoMemory),
     }
@@ -174,6 +198,7 @@ fn end_job<F: Files, K: Sink>(
             let name = name_at(schema, schedule, client, place);
             tell_name(alloc, out, 3, "regiondb: cannot read ", name)
         }
+        Err(Halt::Refused(fault)) => tell_fault(alloc, out, &fault),
         Err(Halt::NotBuilt(place)) => {
             let name = name_at(schema, schedule, client, place);
             tell_name(alloc, out, 10, "regiondb: not built ", name)
@@ -196,12 +221,12 @@ fn end<F: Files, K: Sink>(alloc: Global, job: &Job, files: &mut F, out: &mut K) 
 /// Replays a job: reads its files in order, runs its client and writes the report. Until other forms are built it is
 /// for jobs with one client, whose files are of the simplest form. The cost grows with the files and the report.
 ///
-/// The status is 0 where all is done, 3 where a file can't be read, 10 where a file isn't of the simplest form, 7 where a
-/// write failed and 8 where memory was wanting.
+/// The status is 0 where all is done, 3 where a file can't be read, 4 where the schema is refused, 10 where a file isn't
+/// of the simplest form, 7 where a write failed and 8 where memory was wanting.
 pub fn replay<F: Files, K: Sink>(alloc: Global, job: &Job, files: &mut F, out: &mut K) -> u8
     requires pages { (1 ≤ job.now.pages) × (job.now.pages ≤ 16384) }
     requires one_client { length job.now.clients ≡ 1 }
-    ensures statuses { Contains (0 ∷ 3 ∷ 7 ∷ 8 ∷ 10 ∷ []) result }
+    ensures statuses { Contains (0 ∷ 3 ∷ 4 ∷ 7 ∷ 8 ∷ 10 ∷ []) result }
 
     // 0: the text is the report, and all of it was written.
     ensures done { result ≡ 0 → Shows (ink_of K.written K.faults out.old out.new)
@@ -212,6 +237,11 @@ pub fn replay<F: Files, K: Sink>(alloc: Global, job: &Job, files: &mut F, out: &
         (IsUnreadable (files_of job.now) (sight_of F.told F.asked F.faults files.old files.new)) }
     ensures failed_read { F.faults files.old < F.faults files.new → Contains (3 ∷ 7 ∷ 8 ∷ []) result }
     ensures too_long { HasTooLong (files_of job.now) (sight_of F.told F.asked F.faults files.old files.new) → Contains (3 ∷ 7 ∷ 8 ∷ []) result }
+
+    // 4: exactly where all files are read and the schema is refused, with its first fault.
+    ensures bad_schema { result ≡ 4 → Shows (ink_of K.written K.faults out.old out.new)
+        (IsBadSchema (files_of job.now) (sight_of F.told F.asked F.faults files.old files.new)) }
+    ensures refused { HasBadSchema (files_of job.now) (sight_of F.told F.asked F.faults files.old files.new) → Contains (3 ∷ 4 ∷ 7 ∷ 8 ∷ []) result }
 
     // 10: never for files of the simplest form.
     ensures not_built { result ≡ 10 → Shows (ink_of K.written K.faults out.old out.new)

@@ -2,11 +2,13 @@
 
 ghost use Rattle.std.specs.Prelude.{◌≡◌, ◌++◌, ◌⊎◌, codes, IfOk, OnOk, OnErr, string_bytes};
 ghost use Rattle.std.specs.List.{concat};
+ghost use Rattle.rdb_runner.specs.SchemaFile.{fault_line};
 ghost use Rattle.rdb_runner.specs.Telling.{Tells, Writes, IsCutOff, IsSilent, ink_of};
 
 use rdb_base::list::{List, NoMemory};
 use rdb_base::sink::{Sink, WriteFault};
 use rdb_base::text::Text;
+use rdb_ddl::fault::{DdlFault, cause_word};
 use std::alloc::Global;
 
 /// The status of a command whose output was cut off by a failed write.
@@ -61,6 +63,28 @@ pub fn tell_name<K: Sink>(alloc: Global, out: &mut K, status: u8, words: &str, n
 {
     match line_of(alloc, words, name) {
         Ok(line) => tell(out, status, line.as_bytes()),
+        Err(_) => NO_MEMORY,
+    }
+}
+
+/// The line that tells a schema's fault.
+fn line_of_fault(alloc: Global, fault: &DdlFault) -> Result<String, NoMemory>
+    ensures { IfOk result (λ line. string_bytes line ≡ fault_line fault.now) }
+{
+    let line = fault.line;
+    let column = fault.column;
+    let cause = cause_word(fault.cause);
+    format!(in alloc; "regiondb: schema {line}:{column} {cause}\n")
+}
+
+/// Writes the line of a schema's fault, and answers 4, that the write failed, or that memory was wanting and nothing was
+/// written.
+pub fn tell_fault<K: Sink>(alloc: Global, out: &mut K, fault: &DdlFault) -> u8
+    ensures { Tells (ink_of K.written K.faults out.old out.new) 4 (fault_line fault.now) result
+        ⊎ ((result ≡ 8) × IsSilent (ink_of K.written K.faults out.old out.new)) }
+{
+    match line_of_fault(alloc, fault) {
+        Ok(line) => tell(out, 4, line.as_bytes()),
         Err(_) => NO_MEMORY,
     }
 }

@@ -13,6 +13,12 @@ use std::test::Fail;
 
 const SCHEMA: &[u8] = b"declare database shop; class Item { uint4 n; autoid; };";
 
+/// A schema that a replay can't run yet.
+const WIDE: &[u8] = b"declare database shop; class Item { uint8 n; autoid; };";
+
+/// A text that breaks off in its second word.
+const BROKEN: &[u8] = b"declare datab";
+
 const SCHEDULE: &[u8] = b"1* 1";
 
 const CLIENT: &[u8] = b"begin rw\nnew Item {7}\nget Item 1\ncommit\n";
@@ -40,6 +46,8 @@ fn numbers(alloc: Global, of: &[u32]) -> Result<List<u32>, NoMemory>
 fn files(alloc: Global, failing: &[u32]) -> Result<MemoryFiles, NoMemory> {
     let mut files = MemoryFiles::new(alloc, numbers(alloc, failing)?);
     files.put("schema", SCHEMA)?;
+    files.put("broken", BROKEN)?;
+    files.put("wide", WIDE)?;
     files.put("schedule", SCHEDULE)?;
     files.put("client1", CLIENT)?;
     Ok(files)
@@ -101,9 +109,24 @@ fn each_refusal_has_its_status_and_line(rt: HostRuntime) -> Result<(), Fail> {
             "regiondb: not built schedule\n",
         ),
         (
-            "replay client1 schedule schema",
+            "replay broken schedule client1",
+            4,
+            "regiondb: schema 1:9 unexpected\n",
+        ),
+        (
+            "replay client1 schedule nothing",
+            3,
+            "regiondb: cannot read nothing\n",
+        ),
+        (
+            "replay client1 client1 client1",
+            4,
+            "regiondb: schema 1:1 unexpected\n",
+        ),
+        (
+            "replay wide schedule client1",
             10,
-            "regiondb: not built client1\n",
+            "regiondb: not built wide\n",
         ),
         (
             "replay schema client1 client1",
@@ -113,7 +136,8 @@ fn each_refusal_has_its_status_and_line(rt: HostRuntime) -> Result<(), Fail> {
         ("replay schema schedule", 10, "regiondb: not built replay\n"),
         ("run schema client1", 10, "regiondb: not built run\n"),
         ("audit schema schedule", 10, "regiondb: not built audit\n"),
-        ("check schema", 10, "regiondb: not built check\n"),
+        ("check nothing", 3, "regiondb: cannot read nothing\n"),
+        ("check broken", 4, "regiondb: schema 1:9 unexpected\n"),
         ("job --threads 7", 10, "regiondb: not built job\n"),
     ];
     for (line, want, text) in table {
@@ -182,5 +206,76 @@ fn a_second_write_that_takes_nothing_leaves_the_first_line(rt: HostRuntime) -> R
     let line = "replay schema schedule client1";
     assert_eq!(rt; status(alloc, line, &mut files, &mut out)?, 7);
     assert!(rt; out.bytes() == b"commit 1 client 1 tx 1 begun 0 snapshot 0\n".as_slice());
+    Ok(())
+}
+
+/// What `check` of this schema answers and writes.
+fn checked(alloc: Global, schema: &[u8], out: &mut MemorySink) -> Result<u8, NoMemory> {
+    let mut files = MemoryFiles::new(alloc, List::new(alloc));
+    files.put("schema", schema)?;
+    status(alloc, "check schema", &mut files, out)
+}
+
+#[test]
+fn a_schema_is_checked(rt: HostRuntime) -> Result<(), Fail> {
+    let alloc = rt.alloc();
+    let schema = b"declare database shop;class Item{uint4 n;autoid[10];unique tree<n>byN;}";
+    let canonical =
+        b"declare database shop;\n\nclass Item {\n  uint4 n;\n  autoid[10];\n  unique tree<n> byN;\n};\n";
+    let mut out = MemorySink::new(alloc, List::new(alloc), List::new(alloc));
+    assert_eq!(rt; checked(alloc, schema, &mut out)?, 0);
+    assert!(rt; out.bytes() == canonical.as_slice());
+    Ok(())
+}
+
+#[test]
+fn each_refused_schema_is_told(rt: HostRuntime) -> Result<(), Fail> {
+    let alloc = rt.alloc();
+    let table: [(&[u8], &[u8]); 6] = [
+        (
+            b"declare database d;\r\nclass\r\n{",
+            b"regiondb: schema 3:1 unexpected\n",
+        ),
+        (
+            b"declare database d; // \xFF",
+            b"regiondb: schema 1:24 unexpected\n",
+        ),
+        (
+            b"declare database d;\r\nclass C { S s; };",
+            b"regiondb: schema 2:11 unknown\n",
+        ),
+        (
+            b"declare database d; class C { int1 a; int1 a; };",
+            b"regiondb: schema 1:44 twice\n",
+        ),
+        (
+            b"declare database d;\nclass C { autoid; };",
+            b"regiondb: schema 2:7 badkey\n",
+        ),
+        (
+            b"declare database d; class C { int1 a; int1 b; int1 c; int1 e; int1 f; tree<a,b,c,e,f> t; }",
+            b"regiondb: schema 1:84 toomany\n",
+        ),
+    ];
+    for (schema, line) in table {
+        let mut out = MemorySink::new(alloc, List::new(alloc), List::new(alloc));
+        assert_eq!(rt; checked(alloc, schema, &mut out)?, 4);
+        assert!(rt; out.bytes() == line);
+    }
+    Ok(())
+}
+
+#[test]
+fn a_schema_cut_to_each_length_is_checked(rt: HostRuntime) -> Result<(), Fail> {
+    let alloc = rt.alloc();
+    for len in 0..SCHEMA.len() + 1 {
+        let mut out = MemorySink::new(alloc, List::new(alloc), List::new(alloc));
+        let want = if len == 22 || len == 23 || len >= 54 {
+            0
+        } else {
+            4
+        };
+        assert_eq!(rt; checked(alloc, &SCHEMA[..len], &mut out)?, want);
+    }
     Ok(())
 }

@@ -11,5 +11,5 @@ returns-clause-made c =
     let done = c.in_ok-answered.field-0 in
     let steps = c.args.steps.now in
     let told = subst (λ (s : Schema). AreAnswered s steps done) plain.same c.in_ok-answered.ensures.answered in
-    let legal = subst (λ (s : Schema). IsLegal s (journal_of done)) (sym plain.same) (journal_is_legal plain.database plain.class plain.field steps done told) in
+    let legal = subst (λ (s : Schema). IsLegal s (journal_of done)) (sym plain.same) (journal_is_legal plain.database plain.class plain.field plain.estimate steps done told) in
     rw (c.in_ok-push-2.ensures.ok, c.in_ok-push.ensures.ok, c.new-journal.ensures) (record { done = done; answered = c.in_ok-answered.ensures.answered; entries = refl; legal = legal })

@@ -1,4 +1,4 @@
-use Rattle.rdb_runner.proofs.CommandLemmas.{words_status, words_done, words_usage, words_none, words_unreadable, words_failed_read, words_too_long, words_not_built, words_plain, words_cut, words_memory}
+use Rattle.rdb_runner.proofs.CommandLemmas.{words_status, words_done, words_usage, words_none, words_unreadable, words_failed_read, words_too_long, words_bad_schema, words_refused, words_check_built, words_not_built, words_plain, words_cut, words_memory}
 use Rattle.rdb_runner.proofs.region.region_main.Goals as goal
 
 pub returns-clause-statuses : goal.returns-clause-statuses
@@ -33,3 +33,12 @@ returns-clause-interrupted g c = words_cut _ _ _ _ c.end_words.ensures.ends
 
 pub returns-clause-memory : goal.returns-clause-memory
 returns-clause-memory g c = words_memory _ _ _ _ c.end_words.ensures.ends
+
+pub returns-clause-bad_schema : goal.returns-clause-bad_schema
+returns-clause-bad_schema g c = words_bad_schema _ _ _ _ c.end_words.ensures.ends
+
+pub returns-clause-refused : goal.returns-clause-refused
+returns-clause-refused g c = words_refused _ _ _ _ c.end_words.ensures.ends
+
+pub returns-clause-check_is_built : goal.returns-clause-check_is_built
+returns-clause-check_is_built g c = words_check_built _ _ _ _ c.end_words.ensures.ends

@@ -1,4 +1,4 @@
-use Rattle.rdb_runner.proofs.JobLemmas.{job_done, job_unreadable, job_not_built, job_interrupted, job_memory, job_status, job_failed_read, job_too_long, job_plain}
+use Rattle.rdb_runner.proofs.JobLemmas.{job_bad_schema, job_refused, job_done, job_unreadable, job_not_built, job_interrupted, job_memory, job_status, job_failed_read, job_too_long, job_plain}
 use Rattle.rdb_runner.proofs.replay.replay.Goals as goal
 
 pub returns-clause-statuses : goal.returns-clause-statuses
@@ -33,3 +33,9 @@ returns-clause-asked g c = c.end.ensures.asked
 
 pub returns-clause-ends : goal.returns-clause-ends
 returns-clause-ends g c = c.end.ensures
+
+pub returns-clause-bad_schema : goal.returns-clause-bad_schema
+returns-clause-bad_schema g c = job_bad_schema _ _ _ _ c.end.ensures.told
+
+pub returns-clause-refused : goal.returns-clause-refused
+returns-clause-refused g c = job_refused _ _ _ _ c.end.ensures.told
