@@ -3,3 +3,4 @@ pub mod PairLemmas
 pub mod SettledLemmas
 pub mod PlaceLemmas
 pub mod FreeLemmas
+pub mod UntakenLemmas

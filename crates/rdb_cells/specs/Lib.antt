@@ -1,6 +1,7 @@
 pub mod Images
 pub mod Free
 pub mod Records
+pub mod Untaken
 pub mod Places
 pub mod References
 pub mod Words

@@ -1,7 +1,8 @@
 //! Cells as they will be once a plan is written, while the plan is made. It writes to the plan alone.
-ghost use Rattle.std.specs.Prelude.{◌≡◌, ◌<◌, ℕ, [], length, false, Some, IsTrue};
-ghost use Rattle.rdb_cells.specs.Images.{IsCell, IsFree, IsNextFree, Writes};
+ghost use Rattle.std.specs.Prelude.{◌≡◌, ◌<◌, ℕ, [], length, false, Some, IfSome, IfNone, IsTrue};
+ghost use Rattle.rdb_cells.specs.Images.{IsCell, Writes};
 ghost use Rattle.rdb_cells.specs.Records.{names, planned, with_put};
+ghost use Rattle.rdb_cells.specs.Untaken.{IsUntaken, IsNextUntaken};
 
 use crate::cells::Cells;
 use crate::free::{Layer, lowest_below, lowest_named, sooner};
@@ -71,28 +72,43 @@ impl<C: Cells> Overlay<C> {
     }
 
     /// Returns whether the class has a free cell that this plan hasn't taken yet. The cost is that of one search for a free
-    /// cell.
+    /// cell, and of one more for each free cell that was planned without being taken before it.
     pub fn can_take(&self) -> bool
-        ensures yes { IsTrue result → (n : ℕ) × (self.now.taken.number < n) × IsFree (C.image self.now.cells) (C.class_of self.now.cells) self.now.class n }
-        ensures no { result ≡ false → (n : ℕ) → self.now.taken.number < n → ¬ IsFree (C.image self.now.cells) (C.class_of self.now.cells) self.now.class n }
+        ensures yes { IsTrue result → (n : ℕ) × IsUntaken self.now.plan.pairs (C.image self.now.cells) (C.class_of self.now.cells) self.now.class self.now.taken.number n }
+        ensures no { result ≡ false → (n : ℕ) → ¬ IsUntaken self.now.plan.pairs (C.image self.now.cells) (C.class_of self.now.cells) self.now.class self.now.taken.number n }
     {
-        self.cells.free_after(self.class, self.taken).is_some()
+        self.next_untaken().is_some()
     }
 
-    /// Takes the class's lowest free cell that this plan hasn't taken yet. Whoever takes a cell then plans what it will
-    /// hold. The cost is that of one search for a free cell.
+    /// Takes the class's lowest free cell that this plan hasn't taken yet: one above the last that was taken, which isn't
+    /// in the plan. Whoever takes a cell then plans what it will hold. The cost is that of `can_take`.
     pub fn take(&mut self) -> CellRef
-        requires { (n : ℕ) × (self.old.taken.number < n) × IsFree (C.image self.old.cells) (C.class_of self.old.cells) self.old.class n }
-        ensures lowest { IsNextFree (C.image self.old.cells) (C.class_of self.old.cells) self.old.class self.old.taken.number result.number }
+        requires { (n : ℕ) × IsUntaken self.old.plan.pairs (C.image self.old.cells) (C.class_of self.old.cells) self.old.class self.old.taken.number n }
+        ensures lowest { IsNextUntaken self.old.plan.pairs (C.image self.old.cells) (C.class_of self.old.cells) self.old.class self.old.taken.number result.number }
         ensures taken { self.new ≡ record self.old { taken = result } }
     {
-        match self.cells.free_after(self.class, self.taken) {
+        match self.next_untaken() {
             Some(at) => {
                 self.taken = at;
                 at
             }
             None => unreachable!(),
         }
+    }
+
+    /// Returns the lowest cell that can be taken, if there is one.
+    fn next_untaken(&self) -> Option<CellRef>
+        ensures found { IfSome result (λ r. IsNextUntaken self.now.plan.pairs (C.image self.now.cells) (C.class_of self.now.cells) self.now.class self.now.taken.number r.number) }
+        ensures none { IfNone result ((n : ℕ) → ¬ IsUntaken self.now.plan.pairs (C.image self.now.cells) (C.class_of self.now.cells) self.now.class self.now.taken.number n) }
+    {
+        let mut last = self.taken;
+        while let Some(next) = self.cells.free_after(self.class, last) {
+            if !self.plan.has(next) {
+                return Some(next);
+            }
+            last = next;
+        }
+        None
     }
 }
 
