@@ -4,3 +4,4 @@ pub mod SettledLemmas
 pub mod PlaceLemmas
 pub mod FreeLemmas
 pub mod UntakenLemmas
+pub mod OverlayLemmas

@@ -2,6 +2,7 @@ pub mod Images
 pub mod Free
 pub mod Records
 pub mod Untaken
+pub mod Overlays
 pub mod Places
 pub mod References
 pub mod Words

@@ -2,7 +2,7 @@
 ghost use Rattle.std.specs.Prelude.{◌≡◌, ◌+◌, ◌≤◌, ℕ, List, [], ◌∷◌, length, Some, IsSome, IfOk, Bool, true, false, Contains, IsPermutation};
 ghost use Rattle.std.specs.Option.{ForSome};
 ghost use Rattle.rdb_pages.specs.declared.cell.CellRef.{CellRef as CellRefValue};
-ghost use Rattle.rdb_cells.specs.Images.{Image, IsCell, IsFree};
+ghost use Rattle.rdb_cells.specs.Images.{Image, IsFree};
 ghost use Rattle.rdb_cells.specs.Records.{planned};
 ghost use Rattle.rdb_cells.specs.Index.{Sayings, said_by, IsUnlisted, ChangesOnlyOwn, KeepsAccount, ListsVersions, SaySame, SameNodes, empty_head};
 ghost use Rattle.rdb_cells.specs.Untaken.{IsUntaken, HasUntaken};
@@ -38,7 +38,6 @@ pub trait Index {
     /// Adds the version and no other. It takes at most the index's part of the claim in free cells.
     fn put<C: Cells, K: Keys>(&self, cells: &mut Overlay<C>, keys: &K, version: CellRef)
         requires class { cells.old.class ≡ class self.now }
-        requires head { IsCell (C.image cells.old.cells) (head self.now) }
         requires shape { let seen = planned cells.old.plan.pairs (C.image cells.old.cells) in shape self.now (said_by (K.version_of keys.now) (K.encoding keys.now) seen) seen }
         requires places { length cells.old.plan.pairs + 50 ≤ cells.old.plan.room }
         requires free { HasUntaken cells.old.plan.pairs (C.image cells.old.cells) (C.class_of cells.old.cells) cells.old.class cells.old.taken.number (part self.now) }
@@ -54,7 +53,6 @@ pub trait Index {
     /// Takes the version away and no other. It takes no free cell.
     fn remove<C: Cells, K: Keys>(&self, cells: &mut Overlay<C>, keys: &K, version: CellRef)
         requires class { cells.old.class ≡ class self.now }
-        requires head { IsCell (C.image cells.old.cells) (head self.now) }
         requires shape { let seen = planned cells.old.plan.pairs (C.image cells.old.cells) in shape self.now (said_by (K.version_of keys.now) (K.encoding keys.now) seen) seen }
         requires places { length cells.old.plan.pairs + 50 ≤ cells.old.plan.room }
         requires listed { Contains (listed self.now (planned cells.old.plan.pairs (C.image cells.old.cells))) version }

@@ -1,7 +1,8 @@
 //! Cells as they will be once a plan is written, while the plan is made. It writes to the plan alone.
-ghost use Rattle.std.specs.Prelude.{◌≡◌, ◌<◌, ℕ, [], length, false, Some, IfSome, IfNone, IsTrue};
+ghost use Rattle.std.specs.Prelude.{◌≡◌, ◌<◌, ◌-◌, ℕ, [], length, false, Some, IfSome, IfNone, IsTrue};
 ghost use Rattle.rdb_cells.specs.Images.{IsCell, Writes};
 ghost use Rattle.rdb_cells.specs.Records.{names, planned, with_put};
+ghost use Rattle.rdb_cells.specs.Overlays.{AreCells};
 ghost use Rattle.rdb_cells.specs.Untaken.{IsUntaken, IsNextUntaken};
 
 use crate::cells::Cells;
@@ -11,14 +12,25 @@ use crate::pairs::Pair;
 use crate::plan::Plan;
 use crate::reference::NONE;
 use rdb_pages::{Cell, CellRef};
+use std::marker::Model;
 
 /// Cells with a plan over them, for the work on one class. What is read is what the plan says of a cell, or what the cell
-/// holds where it says nothing. Nothing here takes memory.
-pub struct Overlay<C> {
+/// holds where it says nothing. Every cell of the plan is one of these cells. Nothing here takes memory.
+pub struct Overlay<C: Cells> {
     cells: C,
     plan: Plan,
     class: u32,
     taken: CellRef,
+}
+
+impl<C: Cells> Model for Overlay<C> {
+    ghost use Rattle.rdb_cells.specs.Overlays.{Laid, AreCells};
+
+    ghost Value = { Laid C };
+
+    ghost view = { λ o. record { cells = o.cells; plan = o.plan; class = o.class; taken = o.taken } };
+
+    ghost invariant = { λ o. AreCells (C.image o.cells) o.plan.pairs };
 }
 
 impl<C: Cells> Overlay<C> {
@@ -35,11 +47,12 @@ impl<C: Cells> Overlay<C> {
         }
     }
 
-    /// Gives the plan back.
+    /// Gives the plan back. Every cell of it is one of the cells below.
     pub fn plan(self) -> Plan
     where
         C: Drop,
-        ensures { result ≡ self.plan }
+        ensures plan { result ≡ self.plan }
+        ensures cells { AreCells (C.image self.cells) result.pairs }
     {
         let Overlay {
             cells: _,
@@ -50,10 +63,11 @@ impl<C: Cells> Overlay<C> {
         plan
     }
 
-    /// Returns what the cell will hold. The cost is that of a look-up in the plan, and of one read.
+    /// Returns what the cell will hold. It is a cell below, too. The cost is that of a look-up in the plan, and of one read.
     pub fn planned(&self, at: CellRef) -> Cell
         requires { IsCell (planned self.now.plan.pairs (C.image self.now.cells)) at.number }
-        ensures { planned self.now.plan.pairs (C.image self.now.cells) at.number ≡ Some result }
+        ensures planned { planned self.now.plan.pairs (C.image self.now.cells) at.number ≡ Some result }
+        ensures below { IsCell (C.image self.now.cells) at.number }
     {
         match self.plan.get(at) {
             Some(cell) => cell,
@@ -69,6 +83,13 @@ impl<C: Cells> Overlay<C> {
         ensures reading { Writes (planned self.old.plan.pairs (C.image self.old.cells)) (planned self.new.plan.pairs (C.image self.new.cells)) at.number cell }
     {
         self.plan.put(Pair { at, cell });
+    }
+
+    /// Returns how many places are left in the plan.
+    pub fn places_left(&self) -> usize
+        ensures { result ≡ self.now.plan.room - length self.now.plan.pairs }
+    {
+        self.plan.room().saturating_sub(self.plan.len())
     }
 
     /// Returns whether the class has a free cell that this plan hasn't taken yet. The cost is that of one search for a free
