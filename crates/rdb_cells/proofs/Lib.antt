@@ -3,3 +3,5 @@ pub mod PairLemmas
 pub mod SettledLemmas
 pub mod PlaceLemmas
 pub mod FreeLemmas
+pub mod UntakenLemmas
+pub mod OverlayLemmas

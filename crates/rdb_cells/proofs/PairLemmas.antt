@@ -1,6 +1,6 @@
 -- What a plan's list of pairs says of each cell.
-use Rattle.std.proofs.Common.{◌≡◌, ◌≢◌, ◌||◌, ◌==◌, ◌<◌, zero, suc, ℕ, List, [], ◌∷◌, ◌++◌, length, get_or, set, map, Option, Some, None, IsSome, IfSome, IfNone, is_some, Bool, true, false, refl, sym, ap, subst, ◌∙◌, arith, cond, inl, inr, eq-eqb, rules}
-use Rattle.std.proofs.lemmas.Bool.{ne_eqb}
+use Rattle.std.proofs.Common.{◌≡◌, ◌≢◌, ◌||◌, ◌⊎◌, ◌==◌, ◌<◌, zero, suc, ℕ, List, [], ◌∷◌, ◌++◌, length, get_or, set, map, Option, Some, None, IsSome, IfSome, IfNone, is_some, Bool, true, false, refl, sym, ap, subst, ◌∙◌, arith, cond, inl, inr, eq-eqb, rules}
+use Rattle.std.proofs.lemmas.Bool.{ne_eqb, eqb-true, false≢true}
 use Rattle.std.proofs.Permutation.{which}
 use Rattle.std.specs.List.{find}
 use Rattle.std.specs.Option.{option_map}
@@ -152,3 +152,39 @@ is_named None ps ns n e found none = sym (names_none ps n (subst (λ (ks : List 
 is_named (Some i) ps ns n e found none =
     let at = subst (λ (ks : List ℕ). (i < length ks) × (get_or ks i 0 ≡ n)) e found in
     sym (names_at ps i n at.0 at.1)
+
+-- a cell with a content has a pair
+pub named_when_content : (ps : List Pair) (n : ℕ) (cell : Cell) → content ps n ≡ Some cell → names ps n ≡ true
+named_when_content [] n cell e = cc
+named_when_content (p ∷ ps) n cell e =
+    (elim (p.at.number == n) as (λ (b : Bool). option_map (λ (q : Pair). q.cell) (cond b (Some p) (find (λ (q : Pair). q.at.number == n) ps)) ≡ Some cell → (b || names ps n) ≡ true) [
+      | true ↦ λ h. refl
+      | false ↦ λ h. named_when_content ps n cell h
+    ]) e
+
+-- a put names its own cell, and no other anew
+either : (b c : Bool) → (b || c) ≡ true → (b ≡ true) ⊎ (c ≡ true)
+either true c e = inl refl
+either false c e = inr e
+
+named_when_appended : (ps : List Pair) (p : Pair) (n : ℕ) → names (ps ++ p ∷ []) n ≡ true → (names ps n ≡ true) ⊎ (p.at.number ≡ n)
+named_when_appended [] p n e = elim (either (p.at.number == n) false e) [ inl here ↦ inr (eqb-true p.at.number n here) | inr never ↦ absurd (false≢true never) ]
+named_when_appended (q ∷ ps) p n e = elim (either (q.at.number == n) (names (ps ++ p ∷ []) n) e) [
+  | inl here ↦ inl (rw here refl)
+  | inr later ↦ elim (named_when_appended ps p n later) [ inl before ↦ inl (any_right (q.at.number == n) (names ps n) before) | inr here ↦ inr here ]
+]
+
+named_when_replaced : (ps : List Pair) (at n : ℕ) (cell : Cell) → names (replaced ps at cell) n ≡ true → names ps n ≡ true
+named_when_replaced [] at n cell e = e
+named_when_replaced (p ∷ ps) at n cell e =
+    (elim (p.at.number == at) as (λ (b : Bool). ((cond b (record p { cell = cell }) p).at.number == n || names (replaced ps at cell) n) ≡ true → (p.at.number == n || names ps n) ≡ true) [
+      | true ↦ λ h. elim (either (p.at.number == n) (names (replaced ps at cell) n) h) [ inl here ↦ rw here refl | inr later ↦ any_right (p.at.number == n) (names ps n) (named_when_replaced ps at n cell later) ]
+      | false ↦ λ h. elim (either (p.at.number == n) (names (replaced ps at cell) n) h) [ inl here ↦ rw here refl | inr later ↦ any_right (p.at.number == n) (names ps n) (named_when_replaced ps at n cell later) ]
+    ]) e
+
+pub named_with_put : (ps : List Pair) (p : Pair) (n : ℕ) → names (with_put ps p) n ≡ true → (names ps n ≡ true) ⊎ (p.at.number ≡ n)
+named_with_put ps p n e =
+    (elim (names ps p.at.number) as (λ (b : Bool). names (cond b (replaced ps p.at.number p.cell) (ps ++ p ∷ [])) n ≡ true → (names ps n ≡ true) ⊎ (p.at.number ≡ n)) [
+      | true ↦ λ h. inl (named_when_replaced ps p.at.number n p.cell h)
+      | false ↦ λ h. named_when_appended ps p n h
+    ]) e

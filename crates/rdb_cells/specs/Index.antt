@@ -1,8 +1,7 @@
 -- What the keys of versions and the indexes over them promise.
-use Rattle.std.specs.Prelude.{◌≡◌, ◌≢◌, ◌<◌, ◌↔◌, ◌⊎◌, ℕ, ◌*◌, ◌%◌, ◌^◌, List, [], ◌∷◌, length, slice_get, fold, Option, Some, None, IsSome, Bool, true, false, bit_xor, Contains}
+use Rattle.std.specs.Prelude.{◌≡◌, ◌≢◌, ◌↔◌, ◌⊎◌, ℕ, ◌*◌, ◌%◌, ◌^◌, List, [], ◌∷◌, slice_get, fold, Option, Some, None, IsSome, Bool, true, bit_xor, Contains}
 use Rattle.std.specs.Ordering.{nat_cmp, ordering_then}
 use Rattle.std.specs.declared.cmp.Ordering.{Ordering}
-use Rattle.std.specs.List.Sorted.{IsStrictlySortedBy}
 use Rattle.rdb_base.specs.declared.value.Value.{Value}
 use Rattle.rdb_base.specs.declared.value.Value.TheVariants as value
 use Rattle.rdb_base.specs.declared.value.Leaf.TheVariants as leaf
@@ -12,9 +11,7 @@ use Rattle.rdb_pages.specs.declared.cell.Cell.{Cell}
 use Rattle.rdb_pages.specs.declared.cell.CellRef.{CellRef}
 use Rattle.rdb_pages.specs.Pages.{zero_cell}
 use Rattle.rdb_cells.specs.Images.{Image, IsFree}
-use Rattle.rdb_cells.specs.Records.{names}
 use Rattle.rdb_cells.specs.Words.{kind_number}
-use Rattle.rdb_cells.specs.declared.pairs.Pair.{Pair}
 
 -- a version, as an index over it knows it
 pub record Version : Type 0 where
@@ -67,13 +64,6 @@ pub record IsUnlisted (s : Sayings) (listed : List CellRef) (version : CellRef) 
   pub itself : ¬ Contains listed version
   pub otherwise : (r : CellRef) (v w : Version) → Contains listed r → s.version_of version.number ≡ Some v → s.version_of r.number ≡ Some w → w.id ≡ v.id → w.serial ≢ v.serial
 
--- at least so many free cells of the class stand above a number
-pub record HasFree (image : Image) (class_of : ℕ → Option ℕ) (of start many : ℕ) : Type 0 where
-  pub cells : List ℕ
-  pub count : length cells ≡ many
-  pub ascending : IsStrictlySortedBy nat_cmp cells
-  pub free : (i n : ℕ) → slice_get cells i ≡ Some n → (start < n) × IsFree image class_of of n
-
 -- each cell that differs was the head, a node, or free in a page of the class
 abbrev pub ChangesOnlyOwn : Image → Image → (ℕ → Option ℕ) → ℕ → ℕ → (ℕ → Bool) → Type 0
 ChangesOnlyOwn before after class_of of head is_node = (n : ℕ) → after n ≢ before n → (n ≡ head) ⊎ (is_node n ≡ true) ⊎ IsFree before class_of of n
@@ -106,10 +96,6 @@ box_of _ = None
 -- what keys say of an image, put together from what they say of each image and of each key's encoding
 abbrev pub said_by : (Image → ℕ → Option Version) → (List Value → List ℕ) → Image → Sayings
 said_by version_of encoding image = record { version_of = version_of image; hash_of = λ key. fnv1a (encoding key) }
-
--- no free cell above the last one that the plan took is one of the plan's
-abbrev pub IsUntouched : List Pair → Image → (ℕ → Option ℕ) → ℕ → ℕ → Type 0
-IsUntouched pairs image class_of of taken = (n : ℕ) → taken < n → IsFree image class_of of n → names pairs n ≡ false
 
 -- each listed version has a key, and no two have one id and serial, or are the same
 pub record ListsVersions (s : Sayings) (listed : List CellRef) : Type 0 where

@@ -1,6 +1,8 @@
 pub mod Images
 pub mod Free
 pub mod Records
+pub mod Untaken
+pub mod Overlays
 pub mod Places
 pub mod References
 pub mod Words

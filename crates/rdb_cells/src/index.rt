@@ -2,9 +2,10 @@
 ghost use Rattle.std.specs.Prelude.{◌≡◌, ◌+◌, ◌≤◌, ℕ, List, [], ◌∷◌, length, Some, IsSome, IfOk, Bool, true, false, Contains, IsPermutation};
 ghost use Rattle.std.specs.Option.{ForSome};
 ghost use Rattle.rdb_pages.specs.declared.cell.CellRef.{CellRef as CellRefValue};
-ghost use Rattle.rdb_cells.specs.Images.{Image, IsCell, IsFree};
+ghost use Rattle.rdb_cells.specs.Images.{Image, IsFree};
 ghost use Rattle.rdb_cells.specs.Records.{planned};
-ghost use Rattle.rdb_cells.specs.Index.{Sayings, said_by, IsUnlisted, IsUntouched, HasFree, ChangesOnlyOwn, KeepsAccount, ListsVersions, SaySame, SameNodes, empty_head};
+ghost use Rattle.rdb_cells.specs.Index.{Sayings, said_by, IsUnlisted, ChangesOnlyOwn, KeepsAccount, ListsVersions, SaySame, SameNodes, empty_head};
+ghost use Rattle.rdb_cells.specs.Untaken.{IsUntaken, HasUntaken};
 
 use crate::cells::Cells;
 use crate::keys::Keys;
@@ -37,11 +38,9 @@ pub trait Index {
     /// Adds the version and no other. It takes at most the index's part of the claim in free cells.
     fn put<C: Cells, K: Keys>(&self, cells: &mut Overlay<C>, keys: &K, version: CellRef)
         requires class { cells.old.class ≡ class self.now }
-        requires head { IsCell (C.image cells.old.cells) (head self.now) }
         requires shape { let seen = planned cells.old.plan.pairs (C.image cells.old.cells) in shape self.now (said_by (K.version_of keys.now) (K.encoding keys.now) seen) seen }
         requires places { length cells.old.plan.pairs + 50 ≤ cells.old.plan.room }
-        requires untouched { IsUntouched cells.old.plan.pairs (C.image cells.old.cells) (C.class_of cells.old.cells) cells.old.class cells.old.taken.number }
-        requires free { HasFree (C.image cells.old.cells) (C.class_of cells.old.cells) cells.old.class cells.old.taken.number (part self.now) }
+        requires free { HasUntaken cells.old.plan.pairs (C.image cells.old.cells) (C.class_of cells.old.cells) cells.old.class cells.old.taken.number (part self.now) }
         requires unlisted { let seen = planned cells.old.plan.pairs (C.image cells.old.cells) in IsUnlisted (said_by (K.version_of keys.now) (K.encoding keys.now) seen) (listed self.now seen) version }
         ensures listed { IsPermutation (version ∷ listed self.now (planned cells.old.plan.pairs (C.image cells.old.cells))) (listed self.now (planned cells.new.plan.pairs (C.image cells.new.cells))) }
         ensures shape { let seen = planned cells.new.plan.pairs (C.image cells.new.cells) in shape self.now (said_by (K.version_of keys.now) (K.encoding keys.now) seen) seen }
@@ -49,16 +48,13 @@ pub trait Index {
         ensures places { length cells.new.plan.pairs ≤ length cells.old.plan.pairs + 50 }
         ensures own { ChangesOnlyOwn (planned cells.old.plan.pairs (C.image cells.old.cells)) (planned cells.new.plan.pairs (C.image cells.new.cells)) (C.class_of cells.old.cells) (class self.now) (head self.now) (is_node self.now (planned cells.old.plan.pairs (C.image cells.old.cells))) }
         ensures account { KeepsAccount (planned cells.old.plan.pairs (C.image cells.old.cells)) (planned cells.new.plan.pairs (C.image cells.new.cells)) (C.class_of cells.old.cells) (class self.now) (is_node self.now (planned cells.old.plan.pairs (C.image cells.old.cells))) (is_node self.now (planned cells.new.plan.pairs (C.image cells.new.cells))) }
-        ensures untouched { IsUntouched cells.new.plan.pairs (C.image cells.new.cells) (C.class_of cells.new.cells) cells.new.class cells.new.taken.number }
-        ensures takes { (count : ℕ) → HasFree (C.image cells.old.cells) (C.class_of cells.old.cells) cells.old.class cells.old.taken.number (count + part self.now) → HasFree (C.image cells.new.cells) (C.class_of cells.new.cells) cells.new.class cells.new.taken.number count };
+        ensures takes { (count : ℕ) → HasUntaken cells.old.plan.pairs (C.image cells.old.cells) (C.class_of cells.old.cells) cells.old.class cells.old.taken.number (count + part self.now) → HasUntaken cells.new.plan.pairs (C.image cells.new.cells) (C.class_of cells.new.cells) cells.new.class cells.new.taken.number count };
 
     /// Takes the version away and no other. It takes no free cell.
     fn remove<C: Cells, K: Keys>(&self, cells: &mut Overlay<C>, keys: &K, version: CellRef)
         requires class { cells.old.class ≡ class self.now }
-        requires head { IsCell (C.image cells.old.cells) (head self.now) }
         requires shape { let seen = planned cells.old.plan.pairs (C.image cells.old.cells) in shape self.now (said_by (K.version_of keys.now) (K.encoding keys.now) seen) seen }
         requires places { length cells.old.plan.pairs + 50 ≤ cells.old.plan.room }
-        requires untouched { IsUntouched cells.old.plan.pairs (C.image cells.old.cells) (C.class_of cells.old.cells) cells.old.class cells.old.taken.number }
         requires listed { Contains (listed self.now (planned cells.old.plan.pairs (C.image cells.old.cells))) version }
         ensures listed { IsPermutation (version ∷ listed self.now (planned cells.new.plan.pairs (C.image cells.new.cells))) (listed self.now (planned cells.old.plan.pairs (C.image cells.old.cells))) }
         ensures shape { let seen = planned cells.new.plan.pairs (C.image cells.new.cells) in shape self.now (said_by (K.version_of keys.now) (K.encoding keys.now) seen) seen }
@@ -66,8 +62,7 @@ pub trait Index {
         ensures places { length cells.new.plan.pairs ≤ length cells.old.plan.pairs + 50 }
         ensures own { ChangesOnlyOwn (planned cells.old.plan.pairs (C.image cells.old.cells)) (planned cells.new.plan.pairs (C.image cells.new.cells)) (C.class_of cells.old.cells) (class self.now) (head self.now) (is_node self.now (planned cells.old.plan.pairs (C.image cells.old.cells))) }
         ensures account { KeepsAccount (planned cells.old.plan.pairs (C.image cells.old.cells)) (planned cells.new.plan.pairs (C.image cells.new.cells)) (C.class_of cells.old.cells) (class self.now) (is_node self.now (planned cells.old.plan.pairs (C.image cells.old.cells))) (is_node self.now (planned cells.new.plan.pairs (C.image cells.new.cells))) }
-        ensures untouched { IsUntouched cells.new.plan.pairs (C.image cells.new.cells) (C.class_of cells.new.cells) cells.new.class cells.new.taken.number }
-        ensures takes_none { cells.new.taken ≡ cells.old.taken };
+        ensures takes_none { (n : ℕ) → IsUntaken cells.old.plan.pairs (C.image cells.old.cells) (C.class_of cells.old.cells) cells.old.class cells.old.taken.number n → IsUntaken cells.new.plan.pairs (C.image cells.new.cells) (C.class_of cells.new.cells) cells.new.class cells.new.taken.number n };
 
     /// Lists the versions, each once. The only error is want of memory.
     fn refs<C: Cells>(&self, cells: &C) -> Result<Refs, NoMemory>

@@ -1,7 +1,9 @@
 //! Cells as they will be once a plan is written, while the plan is made. It writes to the plan alone.
-ghost use Rattle.std.specs.Prelude.{◌≡◌, ◌<◌, ℕ, [], length, false, Some, IsTrue};
-ghost use Rattle.rdb_cells.specs.Images.{IsCell, IsFree, IsNextFree, Writes};
+ghost use Rattle.std.specs.Prelude.{◌≡◌, ◌<◌, ◌-◌, ℕ, [], length, false, Some, IfSome, IfNone, IsTrue};
+ghost use Rattle.rdb_cells.specs.Images.{IsCell, Writes};
 ghost use Rattle.rdb_cells.specs.Records.{names, planned, with_put};
+ghost use Rattle.rdb_cells.specs.Overlays.{AreCells};
+ghost use Rattle.rdb_cells.specs.Untaken.{IsUntaken, IsNextUntaken};
 
 use crate::cells::Cells;
 use crate::free::{Layer, lowest_below, lowest_named, sooner};
@@ -10,14 +12,25 @@ use crate::pairs::Pair;
 use crate::plan::Plan;
 use crate::reference::NONE;
 use rdb_pages::{Cell, CellRef};
+use std::marker::Model;
 
 /// Cells with a plan over them, for the work on one class. What is read is what the plan says of a cell, or what the cell
-/// holds where it says nothing. Nothing here takes memory.
-pub struct Overlay<C> {
+/// holds where it says nothing. Every cell of the plan is one of these cells. Nothing here takes memory.
+pub struct Overlay<C: Cells> {
     cells: C,
     plan: Plan,
     class: u32,
     taken: CellRef,
+}
+
+impl<C: Cells> Model for Overlay<C> {
+    ghost use Rattle.rdb_cells.specs.Overlays.{Laid, AreCells};
+
+    ghost Value = { Laid C };
+
+    ghost view = { λ o. record { cells = o.cells; plan = o.plan; class = o.class; taken = o.taken } };
+
+    ghost invariant = { λ o. AreCells (C.image o.cells) o.plan.pairs };
 }
 
 impl<C: Cells> Overlay<C> {
@@ -34,11 +47,12 @@ impl<C: Cells> Overlay<C> {
         }
     }
 
-    /// Gives the plan back.
+    /// Gives the plan back. Every cell of it is one of the cells below.
     pub fn plan(self) -> Plan
     where
         C: Drop,
-        ensures { result ≡ self.plan }
+        ensures plan { result ≡ self.plan }
+        ensures cells { AreCells (C.image self.cells) result.pairs }
     {
         let Overlay {
             cells: _,
@@ -49,10 +63,11 @@ impl<C: Cells> Overlay<C> {
         plan
     }
 
-    /// Returns what the cell will hold. The cost is that of a look-up in the plan, and of one read.
+    /// Returns what the cell will hold. It is a cell below, too. The cost is that of a look-up in the plan, and of one read.
     pub fn planned(&self, at: CellRef) -> Cell
         requires { IsCell (planned self.now.plan.pairs (C.image self.now.cells)) at.number }
-        ensures { planned self.now.plan.pairs (C.image self.now.cells) at.number ≡ Some result }
+        ensures planned { planned self.now.plan.pairs (C.image self.now.cells) at.number ≡ Some result }
+        ensures below { IsCell (C.image self.now.cells) at.number }
     {
         match self.plan.get(at) {
             Some(cell) => cell,
@@ -70,29 +85,51 @@ impl<C: Cells> Overlay<C> {
         self.plan.put(Pair { at, cell });
     }
 
-    /// Returns whether the class has a free cell that this plan hasn't taken yet. The cost is that of one search for a free
-    /// cell.
-    pub fn can_take(&self) -> bool
-        ensures yes { IsTrue result → (n : ℕ) × (self.now.taken.number < n) × IsFree (C.image self.now.cells) (C.class_of self.now.cells) self.now.class n }
-        ensures no { result ≡ false → (n : ℕ) → self.now.taken.number < n → ¬ IsFree (C.image self.now.cells) (C.class_of self.now.cells) self.now.class n }
+    /// Returns how many places are left in the plan.
+    pub fn places_left(&self) -> usize
+        ensures { result ≡ self.now.plan.room - length self.now.plan.pairs }
     {
-        self.cells.free_after(self.class, self.taken).is_some()
+        self.plan.room().saturating_sub(self.plan.len())
     }
 
-    /// Takes the class's lowest free cell that this plan hasn't taken yet. Whoever takes a cell then plans what it will
-    /// hold. The cost is that of one search for a free cell.
+    /// Returns whether the class has a free cell that this plan hasn't taken yet. The cost is that of one search for a free
+    /// cell, and of one more for each free cell that was planned without being taken before it.
+    pub fn can_take(&self) -> bool
+        ensures yes { IsTrue result → (n : ℕ) × IsUntaken self.now.plan.pairs (C.image self.now.cells) (C.class_of self.now.cells) self.now.class self.now.taken.number n }
+        ensures no { result ≡ false → (n : ℕ) → ¬ IsUntaken self.now.plan.pairs (C.image self.now.cells) (C.class_of self.now.cells) self.now.class self.now.taken.number n }
+    {
+        self.next_untaken().is_some()
+    }
+
+    /// Takes the class's lowest free cell that this plan hasn't taken yet: one above the last that was taken, which isn't
+    /// in the plan. Whoever takes a cell then plans what it will hold. The cost is that of `can_take`.
     pub fn take(&mut self) -> CellRef
-        requires { (n : ℕ) × (self.old.taken.number < n) × IsFree (C.image self.old.cells) (C.class_of self.old.cells) self.old.class n }
-        ensures lowest { IsNextFree (C.image self.old.cells) (C.class_of self.old.cells) self.old.class self.old.taken.number result.number }
+        requires { (n : ℕ) × IsUntaken self.old.plan.pairs (C.image self.old.cells) (C.class_of self.old.cells) self.old.class self.old.taken.number n }
+        ensures lowest { IsNextUntaken self.old.plan.pairs (C.image self.old.cells) (C.class_of self.old.cells) self.old.class self.old.taken.number result.number }
         ensures taken { self.new ≡ record self.old { taken = result } }
     {
-        match self.cells.free_after(self.class, self.taken) {
+        match self.next_untaken() {
             Some(at) => {
                 self.taken = at;
                 at
             }
             None => unreachable!(),
         }
+    }
+
+    /// Returns the lowest cell that can be taken, if there is one.
+    fn next_untaken(&self) -> Option<CellRef>
+        ensures found { IfSome result (λ r. IsNextUntaken self.now.plan.pairs (C.image self.now.cells) (C.class_of self.now.cells) self.now.class self.now.taken.number r.number) }
+        ensures none { IfNone result ((n : ℕ) → ¬ IsUntaken self.now.plan.pairs (C.image self.now.cells) (C.class_of self.now.cells) self.now.class self.now.taken.number n) }
+    {
+        let mut last = self.taken;
+        while let Some(next) = self.cells.free_after(self.class, last) {
+            if !self.plan.has(next) {
+                return Some(next);
+            }
+            last = next;
+        }
+        None
     }
 }
 

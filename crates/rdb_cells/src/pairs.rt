@@ -84,6 +84,15 @@ impl Pairs {
         }
     }
 
+    /// Takes every pair away, newest first, and keeps the room.
+    pub fn clear(&mut self)
+        ensures { self.new ≡ record self.old { pairs = [] } }
+    {
+        while !self.pairs.is_empty() {
+            let _pair = self.pop();
+        }
+    }
+
     /// Lends the newest pair, if there is one.
     pub fn last(&self) -> Option<&Pair>
         ensures { option_copied result ≡ slice_get self.now.pairs (length self.now.pairs - 1) }

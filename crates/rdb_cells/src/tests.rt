@@ -105,6 +105,21 @@ fn the_first_write_of_a_cell_is_logged(rt: HostRuntime) -> Result<(), Fail> {
 }
 
 #[test]
+fn an_emptied_record_keeps_its_room(rt: HostRuntime) -> Result<(), Fail> {
+    let mut cells = MemoryCells::new(rt.alloc(), &[3], 0)?;
+    let mut undo = Undo::reserve(rt.alloc(), 2)?;
+    write(&rt, &mut cells, &mut undo, 1, 10);
+    write(&rt, &mut cells, &mut undo, 2, 20);
+    undo.clear();
+    assert_eq!(rt; (undo.len(), undo.room()), (0, 2));
+    assert_eq!(rt; undo.get(CellRef { number: 1 }), None);
+    write(&rt, &mut cells, &mut undo, 1, 11);
+    assert_eq!(rt; undo.get(CellRef { number: 1 }), Some(filled_with(10)));
+    assert_eq!(rt; read(&rt, &cells, 2), filled_with(20));
+    Ok(())
+}
+
+#[test]
 fn records_of_two_classes_go_back_in_either_order(rt: HostRuntime) -> Result<(), Fail> {
     for first_goes_first in [true, false] {
         let mut cells = MemoryCells::new(rt.alloc(), &[0, 1], 0)?;
@@ -167,7 +182,10 @@ fn an_overlay_reads_through_its_plan(rt: HostRuntime) -> Result<(), Fail> {
     assert_eq!(rt; overlay.planned(used), filled_with(7));
     overlay.put(used, filled_with(8));
     assert_eq!(rt; overlay.planned(used), filled_with(8));
-    for number in [2, 3, 4] {
+    let planned = CellRef { number: 3 };
+    assert!(rt; cells.holds(planned));
+    overlay.put(planned, filled_with(9));
+    for number in [2, 4, 5] {
         assert!(rt; overlay.can_take());
         assert_eq!(rt; overlay.take().number, number);
     }
@@ -200,5 +218,45 @@ fn free_cells_are_those_of_the_class(rt: HostRuntime) -> Result<(), Fail> {
     assert!(rt;
         cells.in_class(1, CellRef { number: 128 }) && !cells.in_class(1, CellRef { number: 129 })
     );
+    Ok(())
+}
+
+fn next_free<C: Cells>(cells: &C, class: u32, above: u32) -> Option<u32> {
+    cells
+        .free_after(class, CellRef { number: above })
+        .map(|at| at.number)
+}
+
+#[test]
+fn a_settled_image_frees_what_was_written(rt: HostRuntime) -> Result<(), Fail> {
+    let mut cells = MemoryCells::new(rt.alloc(), &[0, 1], 0)?;
+    let mut undo = Undo::reserve(rt.alloc(), 2)?;
+    write(&rt, &mut cells, &mut undo, 1, 10);
+    write(&rt, &mut cells, &mut undo, 2, 20);
+    assert_eq!(rt; next_free(&cells, 0, 0), Some(3));
+    let records = [&undo];
+    let settled = Settled::over(&cells, records.as_slice());
+    assert_eq!(rt; next_free(&settled, 0, 0), Some(1));
+    assert_eq!(rt; next_free(&settled, 0, 2), Some(3));
+    Ok(())
+}
+
+#[test]
+fn an_overlay_frees_and_fills_cells(rt: HostRuntime) -> Result<(), Fail> {
+    let mut cells = MemoryCells::new(rt.alloc(), &[0, 1], 0)?;
+    let used = CellRef { number: 1 };
+    assert!(rt; cells.holds(used));
+    cells.write(used, filled_with(7));
+    let plan = Plan::reserve(rt.alloc(), 4)?;
+    let mut overlay = Overlay::over(&cells, plan, 0);
+    assert!(rt; cells.holds(used));
+    overlay.put(used, Cell::ZERO);
+    let filled = CellRef { number: 2 };
+    assert!(rt; cells.holds(filled));
+    overlay.put(filled, filled_with(8));
+    assert_eq!(rt; next_free(&overlay, 0, 0), Some(1));
+    assert_eq!(rt; next_free(&overlay, 0, 1), Some(3));
+    assert_eq!(rt; next_free(&overlay, 1, 0), Some(65));
+    let _plan = overlay.plan();
     Ok(())
 }

@@ -86,6 +86,13 @@ impl Undo {
         self.pairs.push(pair);
     }
 
+    /// Forgets every pair, and keeps the room. The cost grows with the number of the pairs.
+    pub fn clear(&mut self)
+        ensures { self.new ≡ record self.old { pairs = [] } }
+    {
+        self.pairs.clear();
+    }
+
     /// Takes the newest pair away.
     pub fn pop(&mut self) -> Pair
         requires { 0 < length self.old.pairs }

@@ -5,6 +5,8 @@
 mod claims;
 mod page;
 mod space;
+#[cfg(test)]
+mod tests;
 
 pub use claims::claim;
 pub use page::PageState;

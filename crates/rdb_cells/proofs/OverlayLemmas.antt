@@ -1,0 +1,20 @@
+-- Overlays seen whole, and by their fields.
+use Rattle.std.proofs.Common.{◌≡◌, ◌∙◌, ℕ, List, Option, true, sym, ap, subst}
+use Rattle.rdb_pages.specs.declared.cell.CellRef.{CellRef}
+use Rattle.rdb_cells.specs.declared.pairs.Pair.{Pair}
+use Rattle.rdb_cells.specs.Free.{IsLowestAmong, sooner_of}
+use Rattle.rdb_cells.specs.Images.{Image, IsCell, IsFree}
+use Rattle.rdb_cells.specs.Overlays.{Laid}
+use Rattle.rdb_cells.specs.Records.{planned, names}
+use Rattle.rdb_cells.proofs.FreeLemmas.{planned_lowest}
+
+module _ {X : Type 0} (image : X → Image) (class_of : X → ℕ → Option ℕ) (inside now : Laid X) (same : inside ≡ now) where
+  pub cell_inside : (n : ℕ) → IsCell (image now.cells) n → IsCell (image inside.cells) n
+  cell_inside n there = subst (λ (v : Laid X). IsCell (image v.cells) n) (sym same) there
+
+  -- the searches in the plan and below it, put together
+  pub laid_lowest : (of start : ℕ) (ps : List Pair) (a b r : Option CellRef) → ps ≡ inside.plan.pairs → IsLowestAmong (planned now.plan.pairs (image now.cells)) (class_of now.cells) of start (λ n. names ps n ≡ true) a → IsLowestAmong (planned now.plan.pairs (image now.cells)) (class_of now.cells) of start (IsFree (image inside.cells) (class_of inside.cells) of) b → r ≡ sooner_of a b → IsLowestAmong (planned now.plan.pairs (image now.cells)) (class_of now.cells) of start (IsFree (planned now.plan.pairs (image now.cells)) (class_of now.cells) of) r
+  laid_lowest of start ps a b r are ha hb is =
+      let in_plan = subst (λ (qs : List Pair). IsLowestAmong (planned now.plan.pairs (image now.cells)) (class_of now.cells) of start (λ n. names qs n ≡ true) a) (are ∙ ap (λ (v : Laid X). v.plan.pairs) same) ha in
+      let below = subst (λ (v : Laid X). IsLowestAmong (planned now.plan.pairs (image now.cells)) (class_of now.cells) of start (IsFree (image v.cells) (class_of v.cells) of) b) same hb in
+      planned_lowest now.plan.pairs (image now.cells) (class_of now.cells) of start a b r in_plan below is
