@@ -5,3 +5,4 @@ pub mod PrintedLemmas
 pub mod ScheduleLemmas
 pub mod SpellingLemmas
 pub mod StreamLemmas
+pub mod BeginsLemmas
