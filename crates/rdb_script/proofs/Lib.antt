@@ -1,8 +1,9 @@
+pub mod BlankLemmas
 pub mod DecimalLemmas
 pub mod ItemLemmas
 pub mod JobLemmas
+pub mod ListLemmas
 pub mod PrintedLemmas
 pub mod ScheduleLemmas
 pub mod SpellingLemmas
 pub mod StreamLemmas
-pub mod BeginsLemmas

@@ -1,3 +1,4 @@
+pub mod FirstSigns
 pub mod Job
 pub mod JobScripts
 pub mod Schedule

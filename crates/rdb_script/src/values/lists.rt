@@ -65,13 +65,13 @@ fn filled_at<T: Written>(alloc: Global, text: &[u8], close: u8) -> Result<Option
 
 /// The elements between an opening and a closing sign in front, with commas between them, and what stands behind. The
 /// cost grows with their text.
-pub fn list_at<T: Written>(alloc: Global, text: &[u8], open: u8, close: u8) -> Result<Option<(List<T>, &[u8])>, NoMemory>
+pub fn list_at<T: Written>(alloc: Global, text: &[u8], opening: u8, close: u8) -> Result<Option<(List<T>, &[u8])>, NoMemory>
     requires { IsClosing close }
-    ensures found { IfOk result (λ o. IfSome o (λ r. (spelled : Listed ℕ) × IsListText T.is_text open close spelled r.0 × (text.now ≡ spelled ++ r.1.now))) }
-    ensures exact { (spelled rest : Listed ℕ) (elements : Listed T) → IsListText T.is_text open close spelled elements → text.now ≡ spelled ++ rest
+    ensures found { IfOk result (λ o. IfSome o (λ r. (spelled : Listed ℕ) × IsListText T.is_text opening close spelled r.0 × (text.now ≡ spelled ++ r.1.now))) }
+    ensures exact { (spelled rest : Listed ℕ) (elements : Listed T) → IsListText T.is_text opening close spelled elements → text.now ≡ spelled ++ rest
         → IfOk result (λ o. IsSomeAnd o (λ r. (r.0 ≡ elements) × (r.1.now ≡ rest))) }
 {
-    let Some(inner) = opened_at(text, open) else {
+    let Some(inner) = opened_at(text, opening) else {
         return Ok(None);
     };
     if let Some(rest) = closed_at(inner, close) {
@@ -82,7 +82,7 @@ pub fn list_at<T: Written>(alloc: Global, text: &[u8], open: u8, close: u8) -> R
 
 impl Written for Leaf {
     ghost use Rattle.rdb_script.specs.SpelledValues.{IsLeafText};
-    ghost use Rattle.rdb_script.proofs.BeginsLemmas.{leaf_begins};
+    ghost use Rattle.rdb_script.specs.FirstSigns.{leaf_begins};
 
     ghost is_text = { IsLeafText };
 
@@ -104,7 +104,7 @@ impl Written for Leaf {
 
 impl Written for Element {
     ghost use Rattle.rdb_script.specs.SpelledValues.{IsElementText};
-    ghost use Rattle.rdb_script.proofs.BeginsLemmas.{element_begins};
+    ghost use Rattle.rdb_script.specs.FirstSigns.{element_begins};
 
     ghost is_text = { IsElementText };
 
@@ -123,7 +123,7 @@ impl Written for Element {
 
 impl Written for Value {
     ghost use Rattle.rdb_script.specs.SpelledValues.{IsValueText};
-    ghost use Rattle.rdb_script.proofs.BeginsLemmas.{value_begins};
+    ghost use Rattle.rdb_script.specs.FirstSigns.{value_begins};
 
     ghost is_text = { IsValueText };
 

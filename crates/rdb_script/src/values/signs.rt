@@ -1,43 +1,32 @@
 //! The signs between the parts of a value, and the blanks round them, read from the front of a text. It touches nothing
 //! but the text that it is lent.
 
-ghost use Rattle.std.specs.Prelude.{◌≡◌, ◌++◌, ◌∷◌, ℕ, Bool, true, false, List, position, not, IfSome, IsSomeAnd, ◌||◌, ◌==◌, length, ◌≤◌};
-ghost use Rattle.std.specs.List.{position_or_len};
+ghost use Rattle.std.specs.Prelude.{◌≡◌, ◌++◌, ◌∷◌, [], ◌⊎◌, ℕ, List, IfSome, IfNone, IsSomeAnd};
 ghost use Rattle.rdb_script.specs.SpelledValues.{AreBlanks, BeginsNoBlank};
 
 use crate::front::after;
 
-/// Whether a byte is a space or a tab.
-fn is_blank(byte: u8) -> bool
-    ensures { result ≡ (byte == 32 || byte == 9) }
+/// What stands behind the blank in front.
+fn blank_at(text: &[u8]) -> Option<&[u8]>
+    ensures found { IfSome result (λ rest. (byte : ℕ) × ((byte ≡ 32) ⊎ (byte ≡ 9)) × (text.now ≡ byte ∷ rest.now)) }
+    ensures none { IfNone result (BeginsNoBlank text.now) }
 {
-    byte == b' ' || byte == b'\t'
-}
-
-/// The place of the first byte that is no blank.
-fn first_past_blanks(text: &[u8]) -> Option<usize>
-    ensures { result ≡ position (λ b. not (b == 32 || b == 9)) text.now }
-{
-    text.iter().position(|b| !is_blank(*b))
-}
-
-/// How many blanks the text begins with.
-fn blanks_in_front(text: &[u8]) -> usize
-    ensures count { result ≡ position_or_len (λ b. not (b == 32 || b == 9)) text.now }
-    ensures within { result ≤ length text.now }
-{
-    match first_past_blanks(text) {
-        Some(place) => place,
-        None => text.len(),
+    let (byte, rest) = text.split_first()?;
+    if *byte == b' ' || *byte == b'\t' {
+        return Some(rest);
     }
+    None
 }
 
 /// What stands behind the blanks in front, all of them. The cost grows with their number.
 pub fn after_blanks(text: &[u8]) -> &[u8]
     ensures found { (blanks : List ℕ) × AreBlanks blanks × (text.now ≡ blanks ++ result.now) }
-    ensures exact { (blanks rest : List ℕ) → AreBlanks blanks → BeginsNoBlank rest → text.now ≡ blanks ++ rest → result.now ≡ rest }
+    ensures ends { BeginsNoBlank result.now }
 {
-    let (_, rest) = text.split_at(blanks_in_front(text));
+    let mut rest = text;
+    while let Some(behind) = blank_at(rest) {
+        rest = behind;
+    }
     rest
 }
 
