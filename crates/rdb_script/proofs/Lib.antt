@@ -3,7 +3,10 @@ pub mod DecimalLemmas
 pub mod ItemLemmas
 pub mod JobLemmas
 pub mod ListLemmas
+pub mod NumberLemmas
 pub mod PrintedLemmas
+pub mod RectLemmas
 pub mod ScheduleLemmas
 pub mod SpellingLemmas
 pub mod StreamLemmas
+pub mod ValueLemmas
