@@ -12,6 +12,8 @@ ghost use Rattle.rdb_script.specs.Spelling.{BeginsNoDigit, signed, with_sign, Is
 pub mod lists;
 pub mod numbers;
 mod signs;
+#[cfg(test)]
+mod tests;
 pub mod typed;
 
 use crate::decimal::{number, text_of};
