@@ -10,7 +10,6 @@ use Rattle.rdb_schema.specs.declared.schema.Field.{Field}
 use Rattle.rdb_schema.specs.declared.schema.Schema.{Schema}
 use Rattle.rdb_schema.specs.Values.{holds, values_hold}
 
-
 -- without fields a key has to have ended
 ended : (schema : Schema) (vs : List Value) (place : ℕ) → place ≤ length vs → nat_eq place (length vs) ≡ values_hold schema [] (drop place vs)
 ended schema [] place le =

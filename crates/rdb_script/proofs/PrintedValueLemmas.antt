@@ -1,6 +1,6 @@
 -- The printed form of a value is one of the ways in which it may be written.
-use Rattle.std.proofs.Common.{◌≡◌, ◌≢◌, ℕ, zero, suc, ℤ, pos, neg_ℤ, ◌+◌, ◌-◌, ◌<◌, ◌≤◌, ◌^◌, Bool, true, false, ◌&&◌, ◌==◌, if◌then◌else◌, List, [], ◌∷◌, ◌++◌, length, Option, Some, None, slice_get, refl, sym, ap, ◌∙◌, arith, append_assoc}
-use Rattle.std.specs.Prelude.{codes, flat_map, nat_le, int_le, negsuc, IsTrue}
+use Rattle.std.proofs.Common.{◌≡◌, ℕ, suc, ℤ, pos, neg_ℤ, ◌<◌, ◌^◌, Bool, true, false, ◌&&◌, ◌==◌, if◌then◌else◌, List, [], ◌∷◌, ◌++◌, length, Option, Some, None, slice_get, refl, sym, ap, arith, append_assoc}
+use Rattle.std.specs.Prelude.{codes, flat_map, nat_le, int_le, negsuc}
 use Rattle.std.specs.Fmt.{signed_decimal, decimal}
 use Rattle.std.specs.List.{join_by, list_all}
 use Rattle.std.specs.Option.{option_map_or}
@@ -23,9 +23,8 @@ use Rattle.rdb_schema.specs.declared.schema.Field.{Field}
 use Rattle.rdb_schema.specs.declared.schema.Group.{Group}
 use Rattle.rdb_schema.specs.declared.schema.Class.{Class}
 use Rattle.rdb_schema.specs.declared.schema.Schema.{Schema}
-use Rattle.rdb_schema.specs.Printed.{escaped, quoted, rect_text, leaf_text, group_text, element_text, value_text, row_text}
+use Rattle.rdb_schema.specs.Printed.{escaped, rect_text, leaf_text, group_text, element_text, value_text, row_text}
 use Rattle.rdb_schema.specs.Values.{has_bits, num_holds, leaf_holds, leaves_hold, group_holds, element_holds, holds, values_hold, row_holds}
-use Rattle.rdb_script.specs.Spelling.{IsQuoted}
 use Rattle.rdb_script.specs.SpelledValues.{IsNumberText, IsListEnd, IsListText, IsRectText, IsLeafText, IsElementText, IsValueText, IsRowText, IsProperLeaf, IsProperElement, IsProperValue, IsProperRow, EachIs}
 use Rattle.rdb_script.proofs.PrintedLemmas.{printed_spelled}
 
@@ -95,17 +94,22 @@ module _ {X : Type 0} (R : List ℕ → X → Type 0) (print : X → List ℕ) w
 rect_printed : (rect : Rect) → IsProperLeaf (leaf.Rect rect) → (int_le rect.x1 rect.x2 && int_le rect.y1 rect.y2) ≡ true → IsRectText (rect_text rect) rect
 rect_printed rect proper ordered = (
   by_text (signed_decimal rect.x1) (signed_decimal rect.y1) (signed_decimal rect.x2) (signed_decimal rect.y2)
-    (number_printed rect.x1 (held_small 4 true rect.x1 proper.0)) (number_printed rect.y1 (held_small 4 true rect.y1 proper.1))
-    (number_printed rect.x2 (held_small 4 true rect.x2 proper.2)) (number_printed rect.y2 (held_small 4 true rect.y2 proper.3)),
+      (number_printed rect.x1 (held_small 4 true rect.x1 proper.0)) (number_printed rect.y1 (held_small 4 true rect.y1 proper.1))
+      (number_printed rect.x2 (held_small 4 true rect.x2 proper.2)) (number_printed rect.y2 (held_small 4 true rect.y2 proper.3)),
   (proper.0, proper.1, proper.2, proper.3, ordered),
 )
   where
     by_text : (a b c d : List ℕ) → IsNumberText a rect.x1 → IsNumberText b rect.y1 → IsNumberText c rect.x2 → IsNumberText d rect.y2
         → IsListText IsNumberText 91 93 (codes "[" ++ a ++ codes "," ++ b ++ codes "," ++ c ++ codes "," ++ d ++ codes "]") (rect.x1 ∷ rect.y1 ∷ rect.x2 ∷ rect.y2 ∷ [])
-    by_text a b c d ia ib ic id_ =
-        ([], a, 44 ∷ (b ++ 44 ∷ (c ++ 44 ∷ (d ++ 93 ∷ []))), tt, ia,
-          ([], [], b, 44 ∷ (c ++ 44 ∷ (d ++ 93 ∷ [])), tt, tt, ib, ([], [], c, 44 ∷ (d ++ 93 ∷ []), tt, tt, ic, ([], [], d, 93 ∷ [], tt, tt, id_, ([], tt, refl), refl), refl), refl),
-          simp append_assoc refl)
+    by_text a b c d ia ib ic id_ = (
+      [],
+      a,
+      44 ∷ (b ++ 44 ∷ (c ++ 44 ∷ (d ++ 93 ∷ []))),
+      tt,
+      ia,
+      ([], [], b, 44 ∷ (c ++ 44 ∷ (d ++ 93 ∷ [])), tt, tt, ib, ([], [], c, 44 ∷ (d ++ 93 ∷ []), tt, tt, ic, ([], [], d, 93 ∷ [], tt, tt, id_, ([], tt, refl), refl), refl), refl),
+      simp append_assoc refl,
+    )
 
 leaf_printed : (t : FieldType) (l : Leaf) → leaf_holds t l ≡ true → IsProperLeaf l → IsLeafText (leaf_text l) l
 leaf_printed (ty.Num bytes signed) (leaf.Num n) e proper = number_printed n (held_small bytes signed n e)

@@ -9,7 +9,7 @@ ghost use Rattle.std.specs.Str.Parse.{IsNumeral, digits_value};
 ghost use Rattle.rdb_schema.specs.Printed.{quoted};
 ghost use Rattle.rdb_script.specs.Spelling.{BeginsNoDigit, signed, with_sign, IsPiece, IsSpelled, IsQuoted};
 
-pub mod lists;
+mod lists;
 pub mod numbers;
 mod signs;
 #[cfg(test)]

@@ -5,7 +5,9 @@ use rdb_base::list::{List, NoMemory};
 use rdb_base::text::Text;
 use rdb_base::value::Rect;
 use rdb_schema::printed::{append_value, row_text};
-use rdb_schema::schema::{Class, Field, FieldType, Fields, Group, IndexDecl, IndexKind, Plain, Schema};
+use rdb_schema::schema::{
+    Class, Field, FieldType, Fields, Group, IndexDecl, IndexKind, Plain, Schema,
+};
 use std::alloc::Global;
 use std::process::Abort;
 use std::test::Fail;
@@ -45,7 +47,10 @@ fn small_schema(alloc: Global) -> Result<Schema, NoMemory> {
     let mut classes = List::new(alloc);
     classes.push(Class {
         name: Text::of(alloc, "Item")?,
-        fields: fields_of(alloc, &[number, FieldType::Str, FieldType::Vector(Plain::Struct(0))])?,
+        fields: fields_of(
+            alloc,
+            &[number, FieldType::Str, FieldType::Vector(Plain::Struct(0))],
+        )?,
         autoid: true,
         estimate: None,
         indexes,
@@ -63,7 +68,14 @@ fn number(bytes: u8, signed: bool) -> FieldType {
 }
 
 /// The text is a value of the type with this printed form.
-fn expect_printed(rt: &impl Abort, alloc: Global, schema: &Schema, ty: &FieldType, text: &[u8], printed: &str) -> Result<(), Fail> {
+fn expect_printed(
+    rt: &impl Abort,
+    alloc: Global,
+    schema: &Schema,
+    ty: &FieldType,
+    text: &[u8],
+    printed: &str,
+) -> Result<(), Fail> {
     let (value, rest) = value_at(alloc, schema, ty, text)?.ok_or("a value stands in front")?;
     assert!(rt; rest.is_empty());
     let shown = append_value(String::new(alloc), &value)?;
@@ -83,11 +95,23 @@ fn values_of_each_type_are_read_and_printed(rt: HostRuntime) -> Result<(), Fail>
         (number(2, true), b"-32768", "-32768"),
         (number(4, false), b"4294967295", "4294967295"),
         (number(4, true), b"-2147483648", "-2147483648"),
-        (number(8, false), b"18446744073709551615", "18446744073709551615"),
-        (number(8, true), b"-9223372036854775808", "-9223372036854775808"),
+        (
+            number(8, false),
+            b"18446744073709551615",
+            "18446744073709551615",
+        ),
+        (
+            number(8, true),
+            b"-9223372036854775808",
+            "-9223372036854775808",
+        ),
         (FieldType::Str, b"\"\"", "\"\""),
         (FieldType::Str, b"\"a\\\"b\\\\c\"", "\"a\\\"b\\\\c\""),
-        (FieldType::Str, b"\"\\x41\\x22\\x5C\\x7F\\x0a\"", "\"A\\\"\\\\\\x7f\\x0a\""),
+        (
+            FieldType::Str,
+            b"\"\\x41\\x22\\x5C\\x7F\\x0a\"",
+            "\"A\\\"\\\\\\x7f\\x0a\"",
+        ),
         (FieldType::Str, b"\"\t\x1f\x7f\"", "\"\\x09\\x1f\\x7f\""),
         (FieldType::Str, b"\"\xC3\xA9 ,}\"", "\"\u{e9} ,}\""),
         (FieldType::Box4, b"[-1,0,2,3]", "[-1,0,2,3]"),
@@ -96,10 +120,29 @@ fn values_of_each_type_are_read_and_printed(rt: HostRuntime) -> Result<(), Fail>
         (FieldType::Struct(0), b"{ 01 , \"\\x62\" }", "{1,\"b\"}"),
         (FieldType::Vector(Plain::Str), b"()", "()"),
         (FieldType::Vector(Plain::Str), b"( \t)", "()"),
-        (FieldType::Vector(Plain::Str), b"(\"a\" ,\"b\")", "(\"a\",\"b\")"),
-        (FieldType::Vector(Plain::Num { bytes: 1, signed: false }), b"(0, 255)", "(0,255)"),
-        (FieldType::Vector(Plain::Box4), b"([0,0,0,0])", "([0,0,0,0])"),
-        (FieldType::Vector(Plain::Struct(0)), b"( {1,\"a\"} ,{2,\"b\"})", "({1,\"a\"},{2,\"b\"})"),
+        (
+            FieldType::Vector(Plain::Str),
+            b"(\"a\" ,\"b\")",
+            "(\"a\",\"b\")",
+        ),
+        (
+            FieldType::Vector(Plain::Num {
+                bytes: 1,
+                signed: false,
+            }),
+            b"(0, 255)",
+            "(0,255)",
+        ),
+        (
+            FieldType::Vector(Plain::Box4),
+            b"([0,0,0,0])",
+            "([0,0,0,0])",
+        ),
+        (
+            FieldType::Vector(Plain::Struct(0)),
+            b"( {1,\"a\"} ,{2,\"b\"})",
+            "({1,\"a\"},{2,\"b\"})",
+        ),
     ];
     for (ty, text, printed) in read {
         expect_printed(&rt, rt.alloc(), &schema, &ty, text, printed)?;
@@ -183,7 +226,9 @@ fn rows_and_keys_have_their_fields(rt: HostRuntime) -> Result<(), Fail> {
     let shown = row_text(rt.alloc(), &row)?;
     assert_eq!(rt; shown.as_str(), "{7,\"a\",({1,\"b\"})}");
     assert_eq!(rt; rest, b" ge".as_slice());
-    let (key, rest) = key_at(rt.alloc(), &schema, 0, 0, b"{\"a\", 7}")?.ok_or("a key stands in front")?;
+    let (key, rest) = key_at(rt.alloc(), &schema, 0, 0, b"{\"a\", 7}")?.ok_or(
+        "a key stands in front",
+    )?;
     let shown = row_text(rt.alloc(), &key)?;
     assert_eq!(rt; shown.as_str(), "{\"a\",7}");
     assert!(rt; rest.is_empty());
@@ -199,7 +244,15 @@ fn numbers_and_rectangles_take_no_memory(rt: HostRuntime) -> Result<(), Fail> {
     assert_eq!(rt; found, -12);
     assert_eq!(rt; rest, b"]".as_slice());
     let (rect, rest) = rect_at(b"[1,2,3,4] x").ok_or("a rectangle stands in front")?;
-    assert_eq!(rt; rect, Rect { x1: 1, y1: 2, x2: 3, y2: 4 });
+    assert_eq!(rt;
+        rect,
+        Rect {
+            x1: 1,
+            y1: 2,
+            x2: 3,
+            y2: 4
+        }
+    );
     assert_eq!(rt; rest, b" x".as_slice());
     Ok(())
 }
