@@ -1,7 +1,14 @@
+pub mod BlankLemmas
 pub mod DecimalLemmas
 pub mod ItemLemmas
 pub mod JobLemmas
+pub mod KeyLemmas
+pub mod ListLemmas
+pub mod NumberLemmas
 pub mod PrintedLemmas
+pub mod PrintedValueLemmas
+pub mod RectLemmas
 pub mod ScheduleLemmas
 pub mod SpellingLemmas
 pub mod StreamLemmas
+pub mod ValueLemmas
