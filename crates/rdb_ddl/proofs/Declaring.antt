@@ -33,37 +33,37 @@ use Rattle.rdb_ddl.specs.Resolved.{IsFieldPlace, IsPlainResolved, IsTypeResolved
 abbrev pub Lacks : (Part → Bool) → List Part → Type 0
 Lacks kind xs = All (λ part. kind part ≡ false) xs
 
-abbrev opens_group : Part → Bool
+abbrev pub opens_group : Part → Bool
 opens_group (parts.Struct name) = true
 opens_group _ = false
 
-abbrev opens_class : Part → Bool
+abbrev pub opens_class : Part → Bool
 opens_class (parts.Class name) = true
 opens_class _ = false
 
-abbrev opens_field : Part → Bool
+abbrev pub opens_field : Part → Bool
 opens_field (parts.Plain ty vector) = true
 opens_field (parts.Named name vector) = true
 opens_field _ = false
 
-abbrev opens_index : Part → Bool
+abbrev pub opens_index : Part → Bool
 opens_index (parts.Index unique kind) = true
 opens_index _ = false
 
-abbrev opens_event : Part → Bool
+abbrev pub opens_event : Part → Bool
 opens_event (parts.Event kind) = true
 opens_event _ = false
 
-lacks_one : (kind : Part → Bool) (x : Part) (xs : List Part) → kind x ≡ false → Lacks kind xs → Lacks kind (x ∷ xs)
+pub lacks_one : (kind : Part → Bool) (x : Part) (xs : List Part) → kind x ≡ false → Lacks kind xs → Lacks kind (x ∷ xs)
 lacks_one kind x xs h all = All-cons (λ (part : Part). kind part ≡ false) x xs h all
 
-lacks_nil : (kind : Part → Bool) → Lacks kind []
+pub lacks_nil : (kind : Part → Bool) → Lacks kind []
 lacks_nil kind = All-nil (λ (part : Part). kind part ≡ false)
 
-lacks_both : (kind : Part → Bool) (xs ys : List Part) → Lacks kind xs → Lacks kind ys → Lacks kind (xs ++ ys)
+pub lacks_both : (kind : Part → Bool) (xs ys : List Part) → Lacks kind xs → Lacks kind ys → Lacks kind (xs ++ ys)
 lacks_both kind xs ys a b = All-append (λ (part : Part). kind part ≡ false) xs ys a b
 
-lacks_flat : {X : Type 0} (kind : Part → Bool) (of : X → List Part) → ((x : X) → Lacks kind (of x)) → (xs : List X) → Lacks kind (flat_map of xs)
+pub lacks_flat : {X : Type 0} (kind : Part → Bool) (of : X → List Part) → ((x : X) → Lacks kind (of x)) → (xs : List X) → Lacks kind (flat_map of xs)
 lacks_flat kind of one [] = lacks_nil kind
 lacks_flat kind of one (x ∷ xs) = lacks_both kind (of x) (flat_map of xs) (one x) (lacks_flat kind of one xs)
 
@@ -109,35 +109,35 @@ event_lacks kind fields a b c event = lacks_both kind (kind_parts fields event.k
 -- ---- what is gathered of them
 
 -- parts that declare nothing are passed over
-passed_over : {X : Type 0} (kind : Part → Bool) (from : Part → List Part → Option X) → ((part : Part) (rest : List Part) → kind part ≡ false → from part rest ≡ None) → (xs rest : List Part) → Lacks kind xs → gather from (xs ++ rest) ≡ gather from rest
+pub passed_over : {X : Type 0} (kind : Part → Bool) (from : Part → List Part → Option X) → ((part : Part) (rest : List Part) → kind part ≡ false → from part rest ≡ None) → (xs rest : List Part) → Lacks kind xs → gather from (xs ++ rest) ≡ gather from rest
 unfolding gather
 passed_over kind from quiet [] rest lacks = refl
 passed_over kind from quiet (x ∷ xs) rest lacks =
     ap (λ found. option_to_list found ++ gather from (xs ++ rest)) (quiet x (xs ++ rest) (All-head (λ (part : Part). kind part ≡ false) x xs lacks))
     ∙ passed_over kind from quiet xs rest (All-tail (λ (part : Part). kind part ≡ false) x xs lacks)
 
-no_group : (part : Part) (rest : List Part) → opens_group part ≡ false → group_from part rest ≡ None
+pub no_group : (part : Part) (rest : List Part) → opens_group part ≡ false → group_from part rest ≡ None
 unfolding group_from
 no_group (parts.Struct name) rest e = absurd cc
 no_group part rest e = refl
 
-no_class : (groups : List Group) (part : Part) (rest : List Part) → opens_class part ≡ false → class_from groups part rest ≡ None
+pub no_class : (groups : List Group) (part : Part) (rest : List Part) → opens_class part ≡ false → class_from groups part rest ≡ None
 unfolding class_from
 no_class groups (parts.Class name) rest e = absurd cc
 no_class groups part rest e = refl
 
-no_field : (groups : List Group) (part : Part) (rest : List Part) → opens_field part ≡ false → field_from groups part rest ≡ None
+pub no_field : (groups : List Group) (part : Part) (rest : List Part) → opens_field part ≡ false → field_from groups part rest ≡ None
 unfolding field_from
 no_field groups (parts.Plain ty vector) rest e = absurd cc
 no_field groups (parts.Named name vector) rest e = absurd cc
 no_field groups part rest e = refl
 
-no_index : (fields : List Field) (part : Part) (rest : List Part) → opens_index part ≡ false → index_from fields part rest ≡ None
+pub no_index : (fields : List Field) (part : Part) (rest : List Part) → opens_index part ≡ false → index_from fields part rest ≡ None
 unfolding index_from
 no_index fields (parts.Index unique kind) rest e = absurd cc
 no_index fields part rest e = refl
 
-no_event : (fields : List Field) (part : Part) (rest : List Part) → opens_event part ≡ false → event_from fields part rest ≡ None
+pub no_event : (fields : List Field) (part : Part) (rest : List Part) → opens_event part ≡ false → event_from fields part rest ≡ None
 unfolding event_from
 no_event fields (parts.Event kind) rest e = absurd cc
 no_event fields part rest e = refl
@@ -190,14 +190,14 @@ class_fields groups class all =
 
 -- ---- autoid
 
-any_none : (kind : Part → Bool) (xs : List Part) → Lacks kind xs → list_any kind xs ≡ false
+pub any_none : (kind : Part → Bool) (xs : List Part) → Lacks kind xs → list_any kind xs ≡ false
 any_none kind [] lacks = refl
 any_none kind (x ∷ xs) lacks =
     let here : kind x ≡ false = All-head (λ (part : Part). kind part ≡ false) x xs lacks in
     let others = any_none kind xs (All-tail (λ (part : Part). kind part ≡ false) x xs lacks) in
     rw (here, others) refl
 
-any_after : (kind : Part → Bool) (xs rest : List Part) → Lacks kind xs → list_any kind (xs ++ rest) ≡ list_any kind rest
+pub any_after : (kind : Part → Bool) (xs rest : List Part) → Lacks kind xs → list_any kind (xs ++ rest) ≡ list_any kind rest
 any_after kind [] rest lacks = refl
 any_after kind (x ∷ xs) rest lacks =
     let here : kind x ≡ false = All-head (λ (part : Part). kind part ≡ false) x xs lacks in
@@ -323,11 +323,11 @@ class_events groups class all =
 -- ---- structs and classes
 
 -- a list that is empty, or begins with a struct or a class
-abbrev StartsAnew : List Part → Type 0
+abbrev pub StartsAnew : List Part → Type 0
 StartsAnew [] = Unit {0}
 StartsAnew (part ∷ rest) = is_head part ≡ true
 
-body_is : (xs rest : List Part) → Lacks is_head xs → StartsAnew rest → body_of (xs ++ rest) ≡ xs
+pub body_is : (xs rest : List Part) → Lacks is_head xs → StartsAnew rest → body_of (xs ++ rest) ≡ xs
 body_is [] [] lacks anew = refl
 body_is [] (part ∷ rest) lacks anew =
     take_while-cons (λ (x : Part). not (is_head x)) part rest ∙ ap (λ (t : Bool). cond (not t) (part ∷ take_while (λ (x : Part). not (is_head x)) rest) []) anew
@@ -337,7 +337,7 @@ body_is (x ∷ xs) rest lacks anew =
     ∙ ap (λ (t : Bool). cond (not t) (x ∷ take_while (λ (x : Part). not (is_head x)) (xs ++ rest)) []) (All-head (λ (part : Part). is_head part ≡ false) x xs lacks)
     ∙ ap (λ (tail : List Part). x ∷ tail) others
 
-blocks_start : {X : Type 0} (of : X → List Part) → ((x : X) (rest : List Part) → StartsAnew (of x ++ rest)) → (xs : List X) (rest : List Part) → StartsAnew rest → StartsAnew (flat_map of xs ++ rest)
+pub blocks_start : {X : Type 0} (of : X → List Part) → ((x : X) (rest : List Part) → StartsAnew (of x ++ rest)) → (xs : List X) (rest : List Part) → StartsAnew rest → StartsAnew (flat_map of xs ++ rest)
 blocks_start of one [] rest anew = anew
 blocks_start of one (x ∷ xs) rest anew = subst StartsAnew (sym (append_assoc (of x) (flat_map of xs) rest)) (one x (flat_map of xs ++ rest))
 

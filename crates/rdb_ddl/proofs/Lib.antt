@@ -4,3 +4,9 @@ pub mod OneAnswer
 pub mod Spellings
 pub mod CanonicalTexts
 pub mod Declaring
+pub mod Shapes
+pub mod Items
+pub mod Keeping
+pub mod Members
+pub mod Sorting
+pub mod RoundTrip

@@ -1,12 +1,13 @@
 //! Laws of the schema language, for whoever proves with it. Nothing here runs.
 
-ghost use Rattle.std.specs.Prelude.{◌≡◌};
+ghost use Rattle.std.specs.Prelude.{◌≡◌, ℕ, List};
 ghost use Rattle.rdb_schema.specs.Meaning.{declared};
 ghost use Rattle.rdb_schema.specs.declared.schema.Schema.{Schema};
 ghost use Rattle.rdb_ddl.specs.Canonical.{canonical};
 ghost use Rattle.rdb_ddl.specs.SchemaParts.{parts_of};
 ghost use Rattle.rdb_ddl.specs.Spelled.{IsSpelled, HasParts};
 ghost use Rattle.rdb_ddl.specs.Resolved.{IsResolved};
+ghost use Rattle.rdb_ddl.specs.Read.{IsRead};
 
 /// The canonical text of a schema whose names, types and sizes a text can have is one of the grammar: its
 /// parts are the schema's, each once, in canonical order, and it has no others.
@@ -18,4 +19,17 @@ pub fn canonical_text_has_the_parts()
 /// the name there stands for.
 pub fn parts_declare_the_schema()
     ensures { (schema : Schema) → IsResolved schema → declared (parts_of schema) ≡ schema }
+{}
+
+/// What `read` gives can be spelled by a text, and each place in its types, keys and events is the one that
+/// the name there stands for.
+pub fn what_is_read_is_spelled()
+    ensures spelled { (text : List ℕ) (schema : Schema) → IsRead text schema → IsSpelled schema }
+    ensures resolved { (text : List ℕ) (schema : Schema) → IsRead text schema → IsResolved schema }
+{}
+
+/// The round trip: the canonical text of what `read` gives is read as the same schema. With `one_answer` it is
+/// read as no other, and with `text` it is what is written.
+pub fn canonical_text_is_read_again()
+    ensures { (text : List ℕ) (schema : Schema) → IsRead text schema → IsRead (canonical schema) schema }
 {}

@@ -13,6 +13,9 @@ mod tests;
 pub mod token;
 mod writer;
 
-pub use laws::{canonical_text_has_the_parts, parts_declare_the_schema};
+pub use laws::{
+    canonical_text_has_the_parts, canonical_text_is_read_again, parts_declare_the_schema,
+    what_is_read_is_spelled,
+};
 pub use reader::{one_answer, read};
 pub use writer::text;
