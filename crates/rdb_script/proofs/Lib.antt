@@ -1,6 +1,8 @@
+pub mod BlankLemmas
 pub mod DecimalLemmas
 pub mod ItemLemmas
 pub mod JobLemmas
+pub mod ListLemmas
 pub mod PrintedLemmas
 pub mod ScheduleLemmas
 pub mod SpellingLemmas

@@ -1,5 +1,5 @@
-//! Reads the parts of values in text, each from the front of what is left: numbers, and texts in quotes. It touches
-//! nothing but the text that it is lent.
+//! Values in text, each read from the front of what is left. Here stand the digits of numbers, and texts in quotes. It
+//! touches nothing but the text that it is lent.
 
 ghost use Rattle.std.specs.Prelude.{◌≡◌, ◌≢◌, ◌^◌, ◌<◌, ◌≤◌, ◌+◌, ◌*◌, ◌++◌, ◌∷◌, [], ℕ, Bool, List, length, position, not, IfOk, IfSome, IfNone, IsSomeAnd};
 ghost use Rattle.std.specs.Char.{digit_value, is_ascii_digit};
@@ -8,6 +8,11 @@ ghost use Rattle.std.specs.Str.{IsUtf8};
 ghost use Rattle.std.specs.Str.Parse.{IsNumeral, digits_value};
 ghost use Rattle.rdb_schema.specs.Printed.{quoted};
 ghost use Rattle.rdb_script.specs.Spelling.{BeginsNoDigit, signed, with_sign, IsPiece, IsSpelled, IsQuoted};
+
+pub mod lists;
+pub mod numbers;
+mod signs;
+pub mod typed;
 
 use crate::decimal::{number, text_of};
 use crate::front::after;
