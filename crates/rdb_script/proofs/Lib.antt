@@ -1,9 +1,14 @@
 pub mod BlankLemmas
 pub mod DecimalLemmas
+pub mod FoundLemmas
 pub mod ItemLemmas
 pub mod JobLemmas
+pub mod LastLemmas
+pub mod LineLemmas
 pub mod ListLemmas
+pub mod OperandLemmas
 pub mod PrintedLemmas
 pub mod ScheduleLemmas
+pub mod ScriptLemmas
 pub mod SpellingLemmas
 pub mod StreamLemmas

@@ -203,25 +203,29 @@ pub record IsLastText (text words : List ℕ) : Type 0 where
 abbrev pub is_object : Known → ℕ → List ℕ → Bool
 is_object known class name = option_map_or (λ a. a.class == class) (get known name) false
 
--- an object of a class: a name that stands for one, which leaves the id 0, or the object's id, where the class has `autoid`
+-- an object by its id, where the class has `autoid`
+abbrev pub IsNumbered : Schema → ℕ → List ℕ → Target → Type 0
+IsNumbered schema class w target = (id : ℕ) × (has_autoid schema class ≡ true) × IsNumber 1 (2 ^ 64 - 1) w id × (target ≡ record { from = None; id = id })
+
+-- an object of a class: a name that stands for one, which leaves the id 0, or an id
 abbrev pub IsTargetBy : Bool → Schema → Known → ℕ → List ℕ → Target → Type 0
 IsTargetBy true schema known class w target = (is_object known class w ≡ true) × (target ≡ record { from = Some w; id = 0 })
-IsTargetBy false schema known class w target =
-    (id : ℕ) × (has_autoid schema class ≡ true) × IsNumber 1 (2 ^ 64 - 1) w id × (target ≡ record { from = None; id = id })
+IsTargetBy false schema known class w target = IsNumbered schema class w target
 
 abbrev pub IsTarget : Schema → Known → ℕ → List ℕ → Target → Type 0
 IsTarget schema known class w target = IsTargetBy (is_name w) schema known class w target
 
--- whether a name was last assigned by a `seek` on an index
+-- whether an assignment is that of a place of the index
 abbrev pub is_place_of : Member → Assigned → Bool
-is_place_of m a = a.class == m.class && option_map_or (λ i. i == m.place) a.index false
+is_place_of m a = option_map_or (λ i. a.class == m.class && i == m.place) a.index false
 
-abbrev pub is_cursor : Known → Member → List ℕ → Bool
-is_cursor known m name = is_name name && option_map_or (is_place_of m) (get known name) false
+-- whether a name was last assigned by a `seek` on the index
+abbrev pub holds_place : Known → Member → List ℕ → Bool
+holds_place known m name = option_map_or (is_place_of m) (get known name) false
 
--- such a name and nothing more
+-- whether such a name stands there, and nothing more
 abbrev pub cursor_in : Known → Member → List ℕ → Bool
-cursor_in known m text = is_cursor known m (word text) && is_end (behind text)
+cursor_in known m text = is_name (word text) && (holds_place known m (word text) && is_end (behind text))
 
 -- a tree's place: nothing more is written, a key, or the name of a cursor. Where the name stands for nothing, nothing is found
 -- from the end up, and from the start down.

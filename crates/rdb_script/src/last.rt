@@ -32,10 +32,13 @@ pub fn last_row(
     let Some((row, rest)) = row_at(alloc, schema, class, after_blanks(text))? else {
         return Ok(None);
     };
-    if is_end(rest) && capped_length(schema, class, &row) <= MAX_ROW {
-        return Ok(Some(row));
+    if !is_end(rest) {
+        return Ok(None);
     }
-    Ok(None)
+    if capped_length(schema, class, &row) > MAX_ROW {
+        return Ok(None);
+    }
+    Ok(Some(row))
 }
 
 /// The key of an index that is all of the text. The cost grows with the text.
@@ -52,10 +55,10 @@ pub fn last_key(
     else {
         return Ok(None);
     };
-    if is_end(rest) {
-        return Ok(Some(key));
+    if !is_end(rest) {
+        return Ok(None);
     }
-    Ok(None)
+    Ok(Some(key))
 }
 
 /// The rectangle that is all of the text. The cost grows with the text.
@@ -64,10 +67,10 @@ pub fn last_rect(text: &[u8]) -> Option<Rect>
     ensures exact { (rect : Box) → IsLastRect text.now rect → result ≡ Some rect }
 {
     let (rect, rest) = rect_at(after_blanks(text))?;
-    if is_end(rest) {
-        return Some(rect);
+    if !is_end(rest) {
+        return None;
     }
-    None
+    Some(rect)
 }
 
 /// The text of at most 255 bytes, in quotes, that is all of the text. The cost grows with it.
@@ -78,8 +81,8 @@ pub fn last_text(alloc: Global, text: &[u8]) -> Result<Option<Text>, NoMemory>
     let Some((words, rest)) = text_at(alloc, after_blanks(text))? else {
         return Ok(None);
     };
-    if is_end(rest) {
-        return Ok(Some(words));
+    if !is_end(rest) {
+        return Ok(None);
     }
-    Ok(None)
+    Ok(Some(words))
 }

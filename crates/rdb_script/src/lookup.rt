@@ -1,9 +1,9 @@
 //! The classes, indexes and events that a script's words name. It touches nothing but the schema and the word that it is
 //! lent. The cost of each call grows with the declarations among which it looks, not with the script.
 
-ghost use Rattle.std.specs.Prelude.{◌≡◌, ◌==◌, position, ℕ};
+ghost use Rattle.std.specs.Prelude.{◌≡◌, ◌==◌, position, slice_get};
 ghost use Rattle.std.specs.Str.{bytes_eq};
-ghost use Rattle.std.specs.Option.{option_map};
+ghost use Rattle.std.specs.Option.{option_map, option_copied};
 ghost use Rattle.rdb_script.specs.Statements.{small, class_of, index_of, event_of, index_place, event_place, has_autoid, kind_of, finds_keys, is_tree, is_rtree, is_patricia, index_with, class_before, member_in};
 
 use crate::statement::Member;
@@ -73,10 +73,17 @@ fn member_in<'a>(schema: &Schema, word: &'a [u8]) -> Option<(u32, &'a [u8])>
     }
 }
 
+/// The class at a place, if there is one.
+fn class_at(schema: &Schema, class: u32) -> Option<&Class>
+    ensures { option_copied result ≡ slice_get schema.now.classes class }
+{
+    schema.classes.as_slice().get(class as usize)
+}
+
 fn index_place(schema: &Schema, class: u32, name: &[u8]) -> Option<u32>
     ensures { result ≡ index_place schema.now class name.now }
 {
-    match schema.classes.as_slice().get(class as usize) {
+    match class_at(schema, class) {
         Some(declared) => small(place_of_index(declared.indexes.as_slice(), name)),
         None => None,
     }
@@ -85,7 +92,7 @@ fn index_place(schema: &Schema, class: u32, name: &[u8]) -> Option<u32>
 fn event_place(schema: &Schema, class: u32, name: &[u8]) -> Option<u32>
     ensures { result ≡ event_place schema.now class name.now }
 {
-    match schema.classes.as_slice().get(class as usize) {
+    match class_at(schema, class) {
         Some(declared) => small(place_of_event(declared.events.as_slice(), name)),
         None => None,
     }

@@ -25,6 +25,7 @@ pub struct Names {
 
 impl Model for Names {
     ghost use Rattle.std.specs.Prelude.{List, ℕ};
+    ghost use Rattle.std.specs.Coded.{coded_ℕ, coded_list};
     ghost use Rattle.std.specs.Ordering.{nat_cmp};
     ghost use Rattle.std.specs.Cmp.Lexicographic.{slice_cmp};
     ghost use Rattle.std.specs.FinMap as map;
@@ -32,6 +33,10 @@ impl Model for Names {
     ghost use Rattle.rdb_script.specs.declared.names.Assigned.{Assigned};
 
     ghost Value = { map.FinMap (slice_cmp nat_cmp) Assigned };
+
+    ghost use Rattle.rdb_script.specs.contracts.names.Assigned as assigned_type;
+
+    ghost coded = { map.code (coded_list coded_ℕ) assigned_type.the_row.coded };
 
     ghost view = { λ names. map.from_entries (named names.assigned.entries) };
 }

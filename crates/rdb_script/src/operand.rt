@@ -1,10 +1,10 @@
 //! The operands of operations that are words: numbers, names of objects and of places. It touches nothing but the text,
 //! the schema and the names that it is lent.
 
-ghost use Rattle.std.specs.Prelude.{◌≡◌, ◌≤◌, ◌-◌, ◌^◌, ℕ, IfOk, IfSome, Some};
+ghost use Rattle.std.specs.Prelude.{◌≡◌, ℕ, true, IfOk, IfSome, IsSome, Some};
 ghost use Rattle.rdb_script.specs.declared.statement.Target.{Target as Meant};
 ghost use Rattle.rdb_script.specs.Lines.{word};
-ghost use Rattle.rdb_script.specs.Statements.{IsNumber, IsTarget, IsTargetBy, is_object, is_place_of, is_cursor, cursor_in};
+ghost use Rattle.rdb_script.specs.Statements.{IsNumber, IsTarget, IsNumbered, is_object, is_place_of, holds_place, cursor_in};
 
 use crate::decimal::{number, text_of};
 use crate::lookup::has_autoid;
@@ -40,8 +40,8 @@ fn is_object(names: &Names, class: u32, name: &str) -> bool
 
 /// The object of a class whose id a word is, where the class has `autoid`.
 fn numbered(schema: &Schema, class: u32, word: &[u8]) -> Option<Target>
-    ensures found { IfSome result (λ target. IsTargetBy false schema.now class word.now target) }
-    ensures exact { (target : Meant) → IsTargetBy false schema.now class word.now target → result ≡ Some target }
+    ensures found { IfSome result (λ target. IsNumbered schema.now class word.now target) }
+    ensures exact { (target : Meant) → IsNumbered schema.now class word.now target → result ≡ Some target }
 {
     if !has_autoid(schema, class) {
         return None;
@@ -86,7 +86,8 @@ fn is_place_of(index: Member, assigned: Assigned) -> bool
 }
 
 /// Whether a name was last assigned by a `seek` on the index.
-fn is_cursor(names: &Names, index: Member, name: &str) -> bool
+fn holds_place(names: &Names, index: Member, name: &str) -> bool
+    ensures { result ≡ holds_place names.now index name.now }
 {
     match names.get(name) {
         Some(assigned) => is_place_of(index, assigned),
@@ -101,8 +102,11 @@ pub fn cursor<'a>(names: &Names, index: Member, text: &'a [u8]) -> Option<&'a st
 {
     let (word, rest) = next_word(text);
     let name = name_in(word)?;
-    if is_end(rest) && is_cursor(names, index, name) {
-        return Some(name);
+    if !holds_place(names, index, name) {
+        return None;
     }
-    None
+    if !is_end(rest) {
+        return None;
+    }
+    Some(name)
 }

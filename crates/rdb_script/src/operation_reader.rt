@@ -1,10 +1,12 @@
 //! Reads operations, each from the words behind the one that asks for it. It touches nothing but the text, the schema and
 //! the names that it is lent.
 
-ghost use Rattle.std.specs.Prelude.{◌≡◌, ℕ, true, IfOk, IfSome, Some};
+ghost use Rattle.std.specs.Prelude.{◌≡◌, List as Listed, true, IfOk, IfSome, Some, None};
+ghost use Rattle.rdb_base.specs.declared.value.Value.{Value as Held};
+ghost use Rattle.rdb_script.specs.Lines.{is_end, word};
 ghost use Rattle.rdb_script.specs.declared.statement.Call.{Call as Called};
 ghost use Rattle.rdb_script.specs.declared.statement.Origin.{Origin as Began};
-ghost use Rattle.rdb_script.specs.Statements.{IsNew, IsGet, IsPut, IsDel, IsFind, IsSeek, IsArea, IsPrefix, IsCount, IsCall, IsOrigin};
+ghost use Rattle.rdb_script.specs.Statements.{IsNew, IsGet, IsPut, IsDel, IsFind, IsSeek, IsArea, IsPrefix, IsCount, IsCall, IsOrigin, IsLastKey, cursor_in};
 
 use crate::keyword::{how_of, inside_of, where_of};
 use crate::last::{last_key, last_rect, last_row, last_text};
@@ -154,6 +156,8 @@ fn keyed(
     id: u64,
     up: bool,
 ) -> Result<Option<Origin>, NoMemory>
+    ensures found { IfOk result (λ o. IfSome o (λ origin. (key : Listed Held) × IsLastKey schema.now index text.now key × (origin ≡ record { from = None; place = Place.At key id; up = up }))) }
+    ensures exact { (key : Listed Held) → IsLastKey schema.now index text.now key → IfOk result (λ o. o ≡ Some (record { from = None; place = Place.At key id; up = up })) }
 {
     let Some(key) = last_key(alloc, schema, index, text)? else {
         return Ok(None);
@@ -174,6 +178,8 @@ fn named(
     place: Place,
     up: bool,
 ) -> Result<Option<Origin>, NoMemory>
+    ensures found { IfOk result (λ o. IfSome o (λ origin. (cursor_in names.now index text.now ≡ true) × (origin ≡ record { from = Some (word text.now); place = place; up = up }))) }
+    ensures exact { cursor_in names.now index text.now ≡ true → IfOk result (λ o. o ≡ Some (record { from = Some (word text.now); place = place; up = up })) }
 {
     let Some(name) = cursor(names, index, text) else {
         return Ok(None);
@@ -186,7 +192,10 @@ fn named(
 }
 
 /// The first or the last place, where nothing more is written.
-fn edge(text: &[u8], place: Place, up: bool) -> Option<Origin> {
+fn edge(text: &[u8], place: Place, up: bool) -> Option<Origin>
+    ensures found { IfSome result (λ origin. (is_end text.now ≡ true) × (origin ≡ record { from = None; place = place; up = up })) }
+    ensures exact { is_end text.now ≡ true → result ≡ Some (record { from = None; place = place; up = up }) }
+{
     if !is_end(text) {
         return None;
     }

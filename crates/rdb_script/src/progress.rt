@@ -1,8 +1,8 @@
 //! How far a script has come: what its lines made, and what stands open.
 
-ghost use Rattle.std.specs.Prelude.{◌≡◌, ◌<◌, ◌≤◌, OnOk, true};
-ghost use Rattle.rdb_script.specs.Scripts.{start, writes, may_have, takes, is_watched, is_idle, is_bare, may_stand, assigned_by, assign, with_line, ended, with_ended, after};
-ghost use Rattle.rdb_script.specs.Lines.{is_name};
+ghost use Rattle.std.specs.Prelude.{◌≡◌, ◌<◌, ◌+◌, ◌∷◌, ◌++◌, [], OnOk, Some, None, true, false};
+ghost use Rattle.std.specs.Option.{option_map, option_map_or};
+ghost use Rattle.rdb_script.specs.Scripts.{start, writes, may_have, takes, is_watched, is_idle, is_bare, may_stand, assigned_by, assign, with_line, with_ended, after};
 
 use crate::names::{Assigned, Names};
 use crate::statement::{Member, Statement};
@@ -130,6 +130,7 @@ impl Progress {
 
     /// Whether the open transaction takes one more operation.
     fn takes(&self, op: &Op) -> bool
+        ensures { result ≡ option_map_or (takes op.now) self.now.running false }
     {
         match &self.running {
             Some(running) => running.lines.len() < MAX_OPERATIONS && may_have(running.kind, op),
@@ -156,7 +157,10 @@ impl Progress {
         }
     }
 
-    fn has_watched(&self, class: u32, event: u32) -> bool {
+    /// Whether an earlier line watches the event.
+    fn has_watched(&self, class: u32, event: u32) -> bool
+        ensures { result ≡ is_watched self.now.watched (record { class = class; place = event }) }
+    {
         is_watched(
             self.watched.as_slice(),
             Member {
@@ -167,25 +171,56 @@ impl Progress {
     }
 
     /// Ends the transaction that is open.
-    fn end(&mut self, commits: bool) -> Result<(), NoMemory> {
+    fn end(&mut self, commits: bool) -> Result<(), NoMemory>
+        ensures { OnOk result (self.new ≡ record self.old { units = with_ended self.old.units commits self.old.running; running = None }) }
+    {
         match self.running.take() {
             Some(running) => self.units.push(Unit::Tx {
                 kind: running.kind,
                 retries: running.retries,
                 lines: running.lines,
                 commits,
-            }),
-            None => Ok(()),
+            })?,
+            None => {}
         }
+        Ok(())
     }
 
     /// Adds an operation to the transaction that is open.
-    fn operate(&mut self, line: ScriptLine) -> Result<(), NoMemory> {
+    fn operate(&mut self, line: ScriptLine) -> Result<(), NoMemory>
+        ensures { OnOk result (self.new ≡ record self.old { running = option_map (with_line line) self.old.running; names = assign self.old.names line.name (assigned_by line.op) }) }
+    {
         assign(&mut self.names, &line)?;
         match &mut self.running {
-            Some(running) => running.lines.push(line),
-            None => Ok(()),
+            Some(running) => running.lines.push(line)?,
+            None => {}
         }
+        Ok(())
+    }
+
+    /// Notes that an event is watched.
+    fn watch(&mut self, class: u32, event: u32) -> Result<(), NoMemory>
+        ensures { OnOk result (self.new ≡ record self.old { units = self.old.units ++ Unit.Watch class event ∷ []; watched = self.old.watched ++ (record { class = class; place = event }) ∷ [] }) }
+    {
+        self.watched.push(Member {
+            class,
+            place: event,
+        })?;
+        self.units.push(Unit::Watch { class, event })?;
+        Ok(())
+    }
+
+    /// Begins a transaction.
+    fn begin(&mut self, alloc: Global, kind: Kind, retries: u32)
+        requires { self.old.begun < 10000 }
+        ensures { self.new ≡ record self.old { running = Some (record { kind = kind; retries = retries; lines = [] }); begun = self.old.begun + 1 } }
+    {
+        self.running = Some(Running {
+            kind,
+            retries,
+            lines: List::new(alloc),
+        });
+        self.begun += 1;
     }
 
     /// Goes on behind a statement that may stand. The cost is that of one look-up of its name.
@@ -200,24 +235,13 @@ impl Progress {
                 Ok(())
             }
             Statement::Begin { kind, retries } => {
-                self.running = Some(Running {
-                    kind,
-                    retries,
-                    lines: List::new(alloc),
-                });
-                self.begun += 1;
+                self.begin(alloc, kind, retries);
                 Ok(())
             }
             Statement::Operation(line) => self.operate(line),
             Statement::Commit => self.end(true),
             Statement::Rollback => self.end(false),
-            Statement::Watch { class, event } => {
-                self.watched.push(Member {
-                    class,
-                    place: event,
-                })?;
-                self.units.push(Unit::Watch { class, event })
-            }
+            Statement::Watch { class, event } => self.watch(class, event),
             Statement::Poll { class, event } => self.units.push(Unit::Poll { class, event }),
         }
     }

@@ -1,8 +1,10 @@
 //! Reads clients' scripts. It touches nothing but the text and the schema that it is lent.
 
-ghost use Rattle.std.specs.Prelude.{◌≡◌, ◌+◌, IfOk, IfErr, OnOk, length, true};
+ghost use Rattle.std.specs.Prelude.{◌≡◌, true, IfOk, IfErr};
+ghost use Rattle.std.specs.Bool.{OnTrue};
+ghost use Rattle.rdb_script.specs.declared.progress.Progress.{Progress as Behind};
 ghost use Rattle.rdb_script.specs.declared.unit.Script.{Script as Meant};
-ghost use Rattle.rdb_script.specs.Scripts.{IsScript, IsScriptRead, IsScriptFault};
+ghost use Rattle.rdb_script.specs.Scripts.{IsStep, IsScript, IsScriptRead, IsScriptFault};
 
 use crate::fault::ScriptFault;
 use crate::progress::Progress;
@@ -19,7 +21,10 @@ fn take_line(
     schema: &Schema,
     progress: &mut Progress,
     line: &[u8],
-) -> Result<bool, NoMemory> {
+) -> Result<bool, NoMemory>
+    ensures took { IfOk result (λ b. OnTrue b (IsStep schema.now progress.old line.now progress.new)) }
+    ensures only { IfOk result (λ b. (other : Behind) → IsStep schema.now progress.old line.now other → (b ≡ true) × (other ≡ progress.new)) }
+{
     let Some(said) = statement(alloc, schema, &progress.names, line)? else {
         return Ok(false);
     };
@@ -44,7 +49,8 @@ pub fn script(alloc: Global, schema: &Schema, text: &[u8]) -> Result<Script, Scr
     let mut rest = text;
     let mut line_number: u64 = 1;
     while let Some((line, behind)) = next_line(rest) {
-        if !take_line(alloc, schema, &mut progress, line)? {
+        let took = take_line(alloc, schema, &mut progress, line)?;
+        if !took {
             return Err(ScriptFault::Line { line: line_number });
         }
         rest = behind;

@@ -1,12 +1,12 @@
 //! Reads what a line of a script says. It touches nothing but the line, the schema and the names that it is lent.
 
-ghost use Rattle.std.specs.Prelude.{◌≡◌, ◌≤◌, ℕ, true, IfOk, IfSome, Some, codes};
-ghost use Rattle.std.specs.Str.{bytes_eq};
+ghost use Rattle.std.specs.Prelude.{◌≡◌, ℕ, true, IfOk, IfSome, Some};
 ghost use Rattle.rdb_script.specs.declared.statement.Member.{Member as Named};
 ghost use Rattle.rdb_script.specs.declared.statement.Statement.{Statement as Said};
+ghost use Rattle.rdb_script.specs.declared.statement.Verb.{Verb as Asked};
 ghost use Rattle.rdb_script.specs.declared.unit.ScriptLine.{ScriptLine as Line};
-ghost use Rattle.rdb_script.specs.Lines.{word, behind};
-ghost use Rattle.rdb_script.specs.Statements.{IsRetries, IsRetriesBy, IsBegin, IsStop, IsEventText, IsPlain, IsAsked, IsAssignment, is_assignment, is_silent, IsSaidBy, IsStatement, assigns};
+ghost use Rattle.rdb_script.specs.Lines.{is_end};
+ghost use Rattle.rdb_script.specs.Statements.{IsRetries, IsRetriesBy, IsBegin, IsStop, IsEventText, IsPlain, IsAsked, IsAssignment, is_assignment, is_silent, IsSaidBy, IsStatement, assigns, verb_of};
 
 use crate::decimal::text_of;
 use crate::keyword::{keyword_of, mode_of, verb_of};
@@ -94,7 +94,10 @@ fn event(schema: &Schema, text: &[u8]) -> Option<Member>
 }
 
 /// The statement, where nothing more is written.
-fn alone(text: &[u8], statement: Statement) -> Option<Statement> {
+fn alone(text: &[u8], statement: Statement) -> Option<Statement>
+    ensures found { IfSome result (λ says. (is_end text.now ≡ true) × (says ≡ statement)) }
+    ensures exact { is_end text.now ≡ true → result ≡ Some statement }
+{
     if !is_end(text) {
         return None;
     }
@@ -121,7 +124,10 @@ fn plain(
     })))
 }
 
-fn watch(schema: &Schema, text: &[u8]) -> Option<Statement> {
+fn watch(schema: &Schema, text: &[u8]) -> Option<Statement>
+    ensures found { IfSome result (λ says. (m : Named) × IsEventText schema.now text.now m × (says ≡ Statement.Watch m.class m.place)) }
+    ensures exact { (m : Named) → IsEventText schema.now text.now m → result ≡ Some (Statement.Watch m.class m.place) }
+{
     let member = event(schema, text)?;
     Some(Statement::Watch {
         class: member.class,
@@ -129,7 +135,10 @@ fn watch(schema: &Schema, text: &[u8]) -> Option<Statement> {
     })
 }
 
-fn poll(schema: &Schema, text: &[u8]) -> Option<Statement> {
+fn poll(schema: &Schema, text: &[u8]) -> Option<Statement>
+    ensures found { IfSome result (λ says. (m : Named) × IsEventText schema.now text.now m × (says ≡ Statement.Poll m.class m.place)) }
+    ensures exact { (m : Named) → IsEventText schema.now text.now m → result ≡ Some (Statement.Poll m.class m.place) }
+{
     let member = event(schema, text)?;
     Some(Statement::Poll {
         class: member.class,
@@ -167,7 +176,10 @@ fn assigns(verb: Verb) -> bool
 }
 
 /// The verb of an assignment, where it assigns.
-fn assigning_verb(word: &[u8]) -> Option<Verb> {
+fn assigning_verb(word: &[u8]) -> Option<Verb>
+    ensures found { IfSome result (λ v. (verb_of word.now ≡ Some v) × (assigns v ≡ true)) }
+    ensures exact { (v : Asked) → verb_of word.now ≡ Some v → assigns v ≡ true → result ≡ Some v }
+{
     let verb = verb_of(word)?;
     if !assigns(verb) {
         return None;

@@ -89,6 +89,7 @@ fn bytes_before_blank(text: &[u8]) -> usize
 }
 
 /// The text from its first byte on that is no blank. The cost grows with the blanks.
+#[tactic(auto, unfolding(crate::specs::Lines::after_blanks))]
 pub fn after_blanks(text: &[u8]) -> &[u8]
     ensures { result.now ≡ after_blanks text.now }
 {
@@ -98,6 +99,7 @@ pub fn after_blanks(text: &[u8]) -> &[u8]
 
 /// The first word of a text, which is empty where there is none, and what stands behind it. The cost grows with what is
 /// passed.
+#[tactic(auto, unfolding(crate::specs::Lines::word, crate::specs::Lines::behind))]
 pub fn next_word(text: &[u8]) -> (&[u8], &[u8])
     ensures word { result.0.now ≡ word text.now }
     ensures behind { result.1.now ≡ behind text.now }
@@ -107,6 +109,7 @@ pub fn next_word(text: &[u8]) -> (&[u8], &[u8])
 }
 
 /// Whether no word is left. The cost grows with the blanks.
+#[tactic(auto, unfolding(crate::specs::Lines::is_end))]
 pub fn is_end(text: &[u8]) -> bool
     ensures { result ≡ is_end text.now }
 {
@@ -121,6 +124,7 @@ fn first_past_spaces(text: &[u8]) -> Option<usize>
 }
 
 /// Whether a line's first byte that is no space is a `#`. The cost grows with the spaces.
+#[tactic(auto, unfolding(crate::specs::Lines::is_comment))]
 pub fn is_comment(line: &[u8]) -> bool
     ensures { result ≡ is_comment line.now }
 {
@@ -150,6 +154,7 @@ fn all_go_on(word: &[u8]) -> bool
 
 /// Whether a word is a name: at most 32 bytes of letters, digits and underscores, the first of them no digit. The cost is
 /// bounded.
+#[tactic(auto, unfolding(crate::specs::Lines::is_name))]
 pub fn is_name(word: &[u8]) -> bool
     ensures { result ≡ is_name word.now }
 {
@@ -160,6 +165,7 @@ pub fn is_name(word: &[u8]) -> bool
 }
 
 /// The word as a text, where it is a name.
+#[tactic(auto, unfolding(crate::specs::Lines::is_name))]
 pub fn name_in(word: &[u8]) -> Option<&str>
     ensures { option_copied result ≡ name_in word.now }
 {
