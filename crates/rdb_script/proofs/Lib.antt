@@ -6,9 +6,12 @@ pub mod JobLemmas
 pub mod LastLemmas
 pub mod LineLemmas
 pub mod ListLemmas
+pub mod NumberLemmas
 pub mod OperandLemmas
 pub mod PrintedLemmas
+pub mod RectLemmas
 pub mod ScheduleLemmas
 pub mod ScriptLemmas
 pub mod SpellingLemmas
 pub mod StreamLemmas
+pub mod ValueLemmas

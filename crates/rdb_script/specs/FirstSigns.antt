@@ -43,7 +43,7 @@ clash a b c d (h ∷ s) (k ∷ t) x y hs ht lt e = let same : h ≡ k = cc in om
 
 at_number : (text : List ℕ) → BeginsIn 45 57 text → BeginsValue text
 at_number [] h = h
-at_number (b ∷ rest) h = (λ e. omega arith, λ e. omega arith, λ e. omega arith, λ e. omega arith, λ e. omega arith)
+at_number (b ∷ rest) h = (λ e. omega arith, λ e. omega arith, λ e. omega arith, λ e. omega arith, λ e. omega arith, λ e. omega arith)
 
 at_sign : (sign : ℕ) (text : List ℕ) → BeginsValue (sign ∷ []) → BeginsIn sign sign text → BeginsValue text
 at_sign sign [] none h = h
@@ -51,16 +51,16 @@ at_sign sign (b ∷ rest) none h = let same : b ≡ sign = omega arith in subst 
 
 -- signs that differ from those that begin no value
 begins_34 : BeginsValue (34 ∷ [])
-begins_34 = (λ e. omega arith, λ e. omega arith, λ e. omega arith, λ e. omega arith, λ e. omega arith)
+begins_34 = (λ e. omega arith, λ e. omega arith, λ e. omega arith, λ e. omega arith, λ e. omega arith, λ e. omega arith)
 
 begins_40 : BeginsValue (40 ∷ [])
-begins_40 = (λ e. omega arith, λ e. omega arith, λ e. omega arith, λ e. omega arith, λ e. omega arith)
+begins_40 = (λ e. omega arith, λ e. omega arith, λ e. omega arith, λ e. omega arith, λ e. omega arith, λ e. omega arith)
 
 begins_91 : BeginsValue (91 ∷ [])
-begins_91 = (λ e. omega arith, λ e. omega arith, λ e. omega arith, λ e. omega arith, λ e. omega arith)
+begins_91 = (λ e. omega arith, λ e. omega arith, λ e. omega arith, λ e. omega arith, λ e. omega arith, λ e. omega arith)
 
 begins_123 : BeginsValue (123 ∷ [])
-begins_123 = (λ e. omega arith, λ e. omega arith, λ e. omega arith, λ e. omega arith, λ e. omega arith)
+begins_123 = (λ e. omega arith, λ e. omega arith, λ e. omega arith, λ e. omega arith, λ e. omega arith, λ e. omega arith)
 
 pub leaf_begins : (text : List ℕ) (l : Leaf) → IsLeafText text l → BeginsValue text
 leaf_begins text (leaf.Num number) is = at_number text (number_in text number is)

@@ -1,6 +1,6 @@
 -- How values may be written. A value may be written in several ways: spaces and tabs may stand between its tokens, zeros may lead the
 -- digits of its numbers, and the bytes of its texts may be escaped.
-use Rattle.std.specs.Prelude.{◌≡◌, ◌≢◌, ℕ, ℤ, ◌<◌, ◌≤◌, ◌^◌, Bool, true, ◌⊎◌, List, [], ◌∷◌, ◌++◌, length, IsTrue, int_le, slice_get}
+use Rattle.std.specs.Prelude.{◌≡◌, ◌≢◌, ℕ, ℤ, ◌<◌, ◌≤◌, ◌^◌, Bool, true, ◌&&◌, ◌⊎◌, List, [], ◌∷◌, ◌++◌, length, IsTrue, int_le, slice_get}
 use Rattle.std.specs.List.{filter_map}
 use Rattle.std.specs.Option.{option_map_or}
 use Rattle.std.specs.Str.{IsUtf8}
@@ -47,20 +47,20 @@ IsListText IsText open_ close text [] = (blanks : List ℕ) × AreBlanks blanks 
 IsListText IsText open_ close text (x ∷ xs) =
     (blanks first more : List ℕ) × AreBlanks blanks × IsText first x × IsListEnd IsText close more xs × (text ≡ open_ ∷ (blanks ++ (first ++ more)))
 
--- the signs that close a list of elements: `)` and `}`
+-- the signs that close a list of elements: `)`, `]` and `}`
 abbrev pub IsClosing : ℕ → Type 0
-IsClosing sign = (sign ≡ 41) ⊎ (sign ≡ 125)
+IsClosing sign = (sign ≡ 41) ⊎ (sign ≡ 93) ⊎ (sign ≡ 125)
 
 -- the text begins with a sign that may begin a value: not with a blank, a comma or a closing sign
 abbrev pub BeginsValue : List ℕ → Type 0
 BeginsValue [] = ⊥
-BeginsValue (byte ∷ rest) = (byte ≢ 32) × (byte ≢ 9) × (byte ≢ 44) × (byte ≢ 41) × (byte ≢ 125)
+BeginsValue (byte ∷ rest) = (byte ≢ 32) × (byte ≢ 9) × (byte ≢ 44) × (byte ≢ 41) × (byte ≢ 93) × (byte ≢ 125)
 
 -- each edge of a rectangle has 32 bits, and the first corner isn't beyond the second
 abbrev pub HasEdges : Rect → Type 0
 HasEdges rect =
     IsTrue (num_holds 4 true rect.x1) × IsTrue (num_holds 4 true rect.y1) × IsTrue (num_holds 4 true rect.x2) × IsTrue (num_holds 4 true rect.y2)
-    × IsTrue (int_le rect.x1 rect.x2) × IsTrue (int_le rect.y1 rect.y2)
+    × IsTrue (int_le rect.x1 rect.x2 && int_le rect.y1 rect.y2)
 
 -- a rectangle: x1, y1, x2 and y2 in square brackets
 -- (`[` is 91 and `]` is 93)
