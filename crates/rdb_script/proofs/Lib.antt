@@ -1,4 +1,5 @@
 pub mod BlankLemmas
+pub mod CallLemmas
 pub mod DecimalLemmas
 pub mod FoundLemmas
 pub mod ItemLemmas
@@ -13,5 +14,6 @@ pub mod RectLemmas
 pub mod ScheduleLemmas
 pub mod ScriptLemmas
 pub mod SpellingLemmas
+pub mod StatementLemmas
 pub mod StreamLemmas
 pub mod ValueLemmas

@@ -8,7 +8,7 @@ ghost use Rattle.rdb_script.specs.declared.unit.ScriptLine.{ScriptLine as Line};
 ghost use Rattle.rdb_script.specs.Lines.{is_end};
 ghost use Rattle.rdb_script.specs.Statements.{IsRetries, IsRetriesBy, IsBegin, IsStop, IsEventText, IsPlain, IsAsked, IsAssignment, is_assignment, is_silent, IsSaidBy, IsStatement, assigns, verb_of};
 
-use crate::decimal::text_of;
+use crate::decimal::is_text;
 use crate::keyword::{keyword_of, mode_of, verb_of};
 use crate::lookup::event_of;
 use crate::names::Names;
@@ -224,6 +224,13 @@ fn is_assignment(line: &[u8]) -> bool
     word == b"=".as_slice()
 }
 
+/// Whether a line is empty or a comment.
+fn is_silent(line: &[u8]) -> bool
+    ensures { result ≡ is_silent line.now }
+{
+    is_comment(line) || is_end(line)
+}
+
 /// What a line of UTF-8 says.
 fn said(
     alloc: Global,
@@ -234,7 +241,7 @@ fn said(
     ensures found { IfOk result (λ o. IfSome o (λ says. IsSaidBy (is_silent line.now) (is_assignment line.now) schema.now names.now line.now says)) }
     ensures exact { (says : Said) → IsSaidBy (is_silent line.now) (is_assignment line.now) schema.now names.now line.now says → IfOk result (λ o. o ≡ Some says) }
 {
-    if is_comment(line) || is_end(line) {
+    if is_silent(line) {
         return Ok(Some(Statement::Nothing));
     }
     if is_assignment(line) {
@@ -261,8 +268,8 @@ pub fn statement(
     ensures found { IfOk result (λ o. IfSome o (λ says. IsStatement schema.now names.now line.now says)) }
     ensures exact { (says : Said) → IsStatement schema.now names.now line.now says → IfOk result (λ o. o ≡ Some says) }
 {
-    match text_of(line) {
-        Some(_) => said(alloc, schema, names, line),
-        None => Ok(None),
+    if !is_text(line) {
+        return Ok(None);
     }
+    said(alloc, schema, names, line)
 }
