@@ -1,5 +1,5 @@
 -- Blanks before a text that begins with none.
-use Rattle.std.proofs.Common.{◌≡◌, ◌≢◌, ℕ, ◌<◌, ◌⊎◌, Bool, true, false, List, [], ◌∷◌, ◌++◌, refl, sym, ap, ◌∙◌, subst, inl, inr, arith, append_assoc}
+use Rattle.std.proofs.Common.{◌≡◌, ℕ, ◌⊎◌, List, [], ◌∷◌, ◌++◌, sym, ap, ◌∙◌, subst, inl, inr, append_assoc}
 use Rattle.rdb_script.specs.SpelledValues.{AreBlanks, BeginsNoBlank, BeginsValue}
 
 -- no blank begins a text that begins with none

@@ -4,12 +4,14 @@ pub mod DecimalLemmas
 pub mod FoundLemmas
 pub mod ItemLemmas
 pub mod JobLemmas
+pub mod KeyLemmas
 pub mod LastLemmas
 pub mod LineLemmas
 pub mod ListLemmas
 pub mod NumberLemmas
 pub mod OperandLemmas
 pub mod PrintedLemmas
+pub mod PrintedValueLemmas
 pub mod RectLemmas
 pub mod ScheduleLemmas
 pub mod ScriptLemmas

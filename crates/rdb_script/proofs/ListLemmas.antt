@@ -1,5 +1,5 @@
 -- How a list of elements is read from the front of a text: element by element, each behind a comma.
-use Rattle.std.proofs.Common.{◌≡◌, ◌≢◌, ℕ, ◌<◌, ◌⊎◌, Bool, true, false, List, [], ◌∷◌, ◌++◌, refl, sym, ap, ◌∙◌, subst, inl, inr, arith, append_assoc, Option, Some, None, Result, Ok, Err, IfOk, IfSome, IsSomeAnd, Bor}
+use Rattle.std.proofs.Common.{◌≡◌, ℕ, false, List, [], ◌∷◌, ◌++◌, refl, sym, ap, ◌∙◌, subst, inl, inr, arith, append_assoc, Option, Some, None, Result, Ok, Err, IfOk, IfSome, IsSomeAnd, Bor}
 use Rattle.std.proofs.lemmas.List.{append-nil}
 use Rattle.std.specs.Char.{is_ascii_digit}
 use Rattle.rdb_script.specs.Spelling.{BeginsNoDigit}
@@ -63,7 +63,7 @@ module _ {X : Type 0} (R : List ℕ → X → Type 0) (close : ℕ) where
       → R first x → next ≡ first ++ later → Completes front (elements ++ x ∷ []) text later
   completes_more front elements x text rest before behind next first later so_far hb ha comma is_x e tail spelled after is l =
       let whole = so_far (x ∷ tail) (before ++ 44 ∷ (behind ++ (first ++ spelled))) after (before, behind, first, spelled, hb, ha, is_x, is, refl)
-        (comma ∙ ap (λ (t : List ℕ). before ++ 44 ∷ (behind ++ t)) (e ∙ ap (λ (t : List ℕ). first ++ t) l) ∙ sym (element_split before behind first spelled after)) in
+      (comma ∙ ap (λ (t : List ℕ). before ++ 44 ∷ (behind ++ t)) (e ∙ ap (λ (t : List ℕ). first ++ t) l) ∙ sym (element_split before behind first spelled after)) in
       (whole.0, whole.1, whole.2, append_assoc elements (x ∷ []) tail ∙ whole.3, whole.4)
 
   -- an end of the list stands in the rest, and these elements and its own are the whole
@@ -173,7 +173,7 @@ module _ {X : Type 0} (R : List ℕ → X → Type 0) (close : ℕ) where
     is.4,
     is.5,
     exact is.0 (is.1 ++ (is.2 ++ rest)) is.3 (value_no_blank is.1 (is.2 ++ rest) (begins is.1 x is.4))
-      (e ∙ ap (λ (t : List ℕ). t ++ rest) is.6 ∙ ap (λ (t : List ℕ). sign ∷ t) (append_assoc is.0 (is.1 ++ is.2) rest ∙ ap (λ (t : List ℕ). is.0 ++ t) (append_assoc is.1 is.2 rest))),
+        (e ∙ ap (λ (t : List ℕ). t ++ rest) is.6 ∙ ap (λ (t : List ℕ). sign ∷ t) (append_assoc is.0 (is.1 ++ is.2) rest ∙ ap (λ (t : List ℕ). is.0 ++ t) (append_assoc is.1 is.2 rest))),
   )
 
   -- where no opening sign is read, no list stands there
@@ -183,7 +183,7 @@ module _ {X : Type 0} (R : List ℕ → X → Type 0) (close : ℕ) where
       none is.0 (close ∷ rest) is.1 (closing_no_blank close rest closing) (e ∙ ap (λ (t : List ℕ). t ++ rest) is.2 ∙ ap (λ (t : List ℕ). sign ∷ t) (append_assoc is.0 (close ∷ []) rest))
   no_list sign text whole rest (x ∷ xs) closing begins none is e =
       none is.0 (is.1 ++ (is.2 ++ rest)) is.3 (value_no_blank is.1 (is.2 ++ rest) (begins is.1 x is.4))
-        (e ∙ ap (λ (t : List ℕ). t ++ rest) is.6 ∙ ap (λ (t : List ℕ). sign ∷ t) (append_assoc is.0 (is.1 ++ is.2) rest ∙ ap (λ (t : List ℕ). is.0 ++ t) (append_assoc is.1 is.2 rest)))
+      (e ∙ ap (λ (t : List ℕ). t ++ rest) is.6 ∙ ap (λ (t : List ℕ). sign ∷ t) (append_assoc is.0 (is.1 ++ is.2) rest ∙ ap (λ (t : List ℕ). is.0 ++ t) (append_assoc is.1 is.2 rest)))
 
   -- where the closing sign follows, the list has no element
   pub inside_empty : (xs : List X) (inner rest behind blanks : List ℕ) → IsClosing close → ((s : List ℕ) (x : X) → R s x → BeginsValue s) → AreBlanks blanks → inner ≡ blanks ++ close ∷ behind

@@ -1,5 +1,5 @@
 -- The kinds of values, which differ in their first signs.
-use Rattle.std.proofs.Common.{◌≡◌, ℕ, ℤ, ◌<◌, List, [], ◌∷◌, ◌++◌, sym, arith}
+use Rattle.std.proofs.Common.{◌≡◌, ℕ, ℤ, List, ◌++◌, sym, arith}
 use Rattle.rdb_base.specs.declared.value.Rect.{Rect}
 use Rattle.rdb_base.specs.declared.value.Leaf.{Leaf}
 use Rattle.rdb_base.specs.declared.value.Leaf.TheVariants as leaf
@@ -9,7 +9,7 @@ use Rattle.rdb_base.specs.declared.value.Value.{Value}
 use Rattle.rdb_base.specs.declared.value.Value.TheVariants as value
 use Rattle.rdb_script.specs.Spelling.{IsQuoted}
 use Rattle.rdb_script.specs.SpelledValues.{IsNumberText, IsRectText, IsListText, IsLeafText, IsElementText, IsValueText}
-use Rattle.rdb_script.specs.FirstSigns.{BeginsIn, clash, number_in, quoted_in, rect_in, list_in}
+use Rattle.rdb_script.specs.FirstSigns.{BeginsIn, clash, number_in, quoted_in, rect_in}
 
 -- a fact of each leaf, by its kind
 pub leaf_by : (P : Leaf → Type 0) (text : List ℕ) (l : Leaf) → ((n : ℤ) → IsNumberText text n → P (leaf.Num n)) → ((words : List ℕ) → IsQuoted text words → P (leaf.Text words)) → ((r : Rect) → IsRectText text r → P (leaf.Rect r))

@@ -1,6 +1,5 @@
 use crate::fault::ScheduleFault;
 use crate::item::Item;
-use crate::values::{magnitude_at, quoted_at};
 use crate::{job_files, schedule};
 use rdb_base::files::{Files, ReadFault};
 use std::alloc::Global;
@@ -151,65 +150,5 @@ fn schedule_of_the_job_has_12_800_items(rt: HostRuntime) -> Result<(), Fail> {
     assert_eq!(rt; *items.at(3_999), Item::Unit(7));
     assert_eq!(rt; *items.at(4_000), Item::Unit(1));
     assert_eq!(rt; *items.at(12_799), Item::Unit(8));
-    Ok(())
-}
-
-#[test]
-fn a_quoted_text_is_read_with_its_escapes(rt: HostRuntime) -> Result<(), Fail> {
-    let read: [(&[u8], &str, usize); 6] = [
-        (b"\"\"", "", 0),
-        (b"\"a\\\"b\\\\\" x", "a\"b\\", 2),
-        (b"\"\\x41\\x7F\\x0a\",", "A\u{7f}\n", 1),
-        (b"\"\\x5c\\x4A\"", "\\J", 0),
-        (b"\"\xC3\xA9\t\"\"", "\u{e9}\t", 1),
-        (b"\"xyz\"}", "xyz", 1),
-    ];
-    for (text, words, left) in read {
-        let (found, rest) = quoted_at(rt.alloc(), text)?.ok_or("the text is quoted")?;
-        assert_eq!(rt; found.as_str(), words);
-        assert_eq!(rt; rest.len(), left);
-    }
-    Ok(())
-}
-
-#[test]
-fn what_is_no_quoted_text_is_not_read(rt: HostRuntime) -> Result<(), Fail> {
-    let refused: [&[u8]; 11] = [
-        b"",
-        b"abc\"",
-        b"\"abc",
-        b"\"\\",
-        b"\"\\\"",
-        b"\"\\a\"",
-        b"\"\\x80\"",
-        b"\"\\xFF\"",
-        b"\"\\x4g\"",
-        b"\"\xFF\"",
-        b"\"\xC3\\x41\"",
-    ];
-    for text in refused {
-        let read = quoted_at(rt.alloc(), text)?;
-        assert!(rt; read.is_none());
-    }
-    Ok(())
-}
-
-#[test]
-fn digits_are_read_up_to_64_bits(rt: HostRuntime) -> Result<(), Fail> {
-    let read: [(&[u8], u64, usize); 4] = [
-        (b"0", 0, 0),
-        (b"007,", 7, 1),
-        (b"18446744073709551615", 18446744073709551615, 0),
-        (b"0000000000000000000000001x", 1, 1),
-    ];
-    for (text, value, left) in read {
-        let (found, rest) = magnitude_at(text).ok_or("the text begins with digits")?;
-        assert_eq!(rt; found, value);
-        assert_eq!(rt; rest.len(), left);
-    }
-    let refused: [&[u8]; 4] = [b"", b"-1", b"+1", b"18446744073709551616"];
-    for text in refused {
-        assert!(rt; magnitude_at(text).is_none());
-    }
     Ok(())
 }

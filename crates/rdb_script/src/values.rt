@@ -9,9 +9,11 @@ ghost use Rattle.std.specs.Str.Parse.{IsNumeral, digits_value};
 ghost use Rattle.rdb_schema.specs.Printed.{quoted};
 ghost use Rattle.rdb_script.specs.Spelling.{BeginsNoDigit, signed, with_sign, IsPiece, IsSpelled, IsQuoted};
 
-pub mod lists;
+mod lists;
 pub mod numbers;
 mod signs;
+#[cfg(test)]
+mod tests;
 pub mod typed;
 
 use crate::decimal::{number, text_of};

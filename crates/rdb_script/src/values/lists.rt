@@ -28,7 +28,12 @@ pub trait Written: Drop {
 }
 
 /// The elements so far, those that stand in front, each behind a comma, and what stands behind the closing sign.
-fn ended_at<T: Written>(alloc: Global, mut elements: List<T>, text: &[u8], close: u8) -> Result<Option<(List<T>, &[u8])>, NoMemory>
+fn ended_at<T: Written>(
+    alloc: Global,
+    mut elements: List<T>,
+    text: &[u8],
+    close: u8,
+) -> Result<Option<(List<T>, &[u8])>, NoMemory>
     requires { IsClosing close }
     ensures found { IfOk result (λ o. IfSome o (λ r. (more : Listed T) × (spelled : Listed ℕ) × IsListEnd T.is_text close spelled more × (r.0 ≡ elements ++ more) × (text.now ≡ spelled ++ r.1.now))) }
     ensures exact { (spelled rest : Listed ℕ) (more : Listed T) → IsListEnd T.is_text close spelled more → text.now ≡ spelled ++ rest
@@ -49,7 +54,11 @@ fn ended_at<T: Written>(alloc: Global, mut elements: List<T>, text: &[u8], close
 }
 
 /// The first element, the others, and what stands behind the closing sign.
-fn filled_at<T: Written>(alloc: Global, text: &[u8], close: u8) -> Result<Option<(List<T>, &[u8])>, NoMemory>
+fn filled_at<T: Written>(
+    alloc: Global,
+    text: &[u8],
+    close: u8,
+) -> Result<Option<(List<T>, &[u8])>, NoMemory>
     requires { IsClosing close }
     ensures found { IfOk result (λ o. IfSome o (λ r. (x : T) × (more : Listed T) × (first : Listed ℕ) × (spelled : Listed ℕ) × T.is_text first x × IsListEnd T.is_text close spelled more × (r.0 ≡ x ∷ more) × (text.now ≡ first ++ (spelled ++ r.1.now)))) }
     ensures exact { (first spelled rest : Listed ℕ) (x : T) (more : Listed T) → T.is_text first x → IsListEnd T.is_text close spelled more → text.now ≡ first ++ (spelled ++ rest)
@@ -65,7 +74,12 @@ fn filled_at<T: Written>(alloc: Global, text: &[u8], close: u8) -> Result<Option
 
 /// The elements between an opening and a closing sign in front, with commas between them, and what stands behind. The
 /// cost grows with their text.
-pub fn list_at<T: Written>(alloc: Global, text: &[u8], opening: u8, close: u8) -> Result<Option<(List<T>, &[u8])>, NoMemory>
+pub fn list_at<T: Written>(
+    alloc: Global,
+    text: &[u8],
+    opening: u8,
+    close: u8,
+) -> Result<Option<(List<T>, &[u8])>, NoMemory>
     requires { IsClosing close }
     ensures found { IfOk result (λ o. IfSome o (λ r. (spelled : Listed ℕ) × IsListText T.is_text opening close spelled r.0 × (text.now ≡ spelled ++ r.1.now))) }
     ensures exact { (spelled rest : Listed ℕ) (elements : Listed T) → IsListText T.is_text opening close spelled elements → text.now ≡ spelled ++ rest

@@ -37,7 +37,12 @@ pub fn text_at(alloc: Global, text: &[u8]) -> Result<Option<(Text, &[u8])>, NoMe
 
 /// The value of a type in front, and what stands behind it. None where no value of the type stands there. The cost
 /// grows with the value's text.
-pub fn value_at<'a>(alloc: Global, schema: &Schema, ty: &FieldType, text: &'a [u8]) -> Result<Option<(Value, &'a [u8])>, NoMemory>
+pub fn value_at<'a>(
+    alloc: Global,
+    schema: &Schema,
+    ty: &FieldType,
+    text: &'a [u8],
+) -> Result<Option<(Value, &'a [u8])>, NoMemory>
     ensures found { IfOk result (λ o. IfSome o (λ r. (spelled : Listed ℕ) × IsSpelledValue schema.now ty.now spelled r.0 × (text.now ≡ spelled ++ r.1.now))) }
     ensures exact { (spelled rest : Listed ℕ) (value : Held) → IsSpelledValue schema.now ty.now spelled value → BeginsNoDigit rest → text.now ≡ spelled ++ rest
         → IfOk result (λ o. IsSomeAnd o (λ r. (r.0 ≡ value) × (r.1.now ≡ rest))) }
@@ -61,7 +66,12 @@ fn untyped_row_at(alloc: Global, text: &[u8]) -> Result<Option<(Row, &[u8])>, No
 
 /// The row of a class in front, and what stands behind it. None where no row of the class stands there. The cost grows
 /// with the row's text.
-pub fn row_at<'a>(alloc: Global, schema: &Schema, class: u32, text: &'a [u8]) -> Result<Option<(Row, &'a [u8])>, NoMemory>
+pub fn row_at<'a>(
+    alloc: Global,
+    schema: &Schema,
+    class: u32,
+    text: &'a [u8],
+) -> Result<Option<(Row, &'a [u8])>, NoMemory>
     ensures found { IfOk result (λ o. IfSome o (λ r. (spelled : Listed ℕ) × IsSpelledRow schema.now class spelled r.0 × (text.now ≡ spelled ++ r.1.now))) }
     ensures exact { (spelled rest : Listed ℕ) (row : Listed Held) → IsSpelledRow schema.now class spelled row → text.now ≡ spelled ++ rest
         → IfOk result (λ o. IsSomeAnd o (λ r. (r.0 ≡ row) × (r.1.now ≡ rest))) }
@@ -116,7 +126,13 @@ fn key_holds(schema: &Schema, class: u32, index: u32, key: &Row) -> bool
 
 /// The key of an index in front, which has a value for each of its fields, and what stands behind it. None where no key
 /// of the index stands there. The cost grows with the key's text.
-pub fn key_at<'a>(alloc: Global, schema: &Schema, class: u32, index: u32, text: &'a [u8]) -> Result<Option<(Row, &'a [u8])>, NoMemory>
+pub fn key_at<'a>(
+    alloc: Global,
+    schema: &Schema,
+    class: u32,
+    index: u32,
+    text: &'a [u8],
+) -> Result<Option<(Row, &'a [u8])>, NoMemory>
     ensures found { IfOk result (λ o. IfSome o (λ r. (spelled : Listed ℕ) × IsSpelledKey schema.now class index spelled r.0 × (text.now ≡ spelled ++ r.1.now))) }
     ensures exact { (spelled rest : Listed ℕ) (key : Listed Held) → IsSpelledKey schema.now class index spelled key → text.now ≡ spelled ++ rest
         → IfOk result (λ o. IsSomeAnd o (λ r. (r.0 ≡ key) × (r.1.now ≡ rest))) }

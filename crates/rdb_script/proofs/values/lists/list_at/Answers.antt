@@ -13,7 +13,7 @@ returns-in-Some-closed_at-clause-exact g c = λ spelled rest elements is e.
     let closed = c.in-Some-closed_at.ensures.found in
     let inside = inside_of g.T.Written.is_text c.args.close c.args.opening c.args.text.now spelled rest c.in-Some.inner.now elements c.requires g.met.T.Written.begins (λ b r hb hr e'. c.in-Some.ensures.exact b r hb hr e') is e in
     let empty = inside_empty g.T.Written.is_text c.args.close elements c.in-Some.inner.now rest c.in-Some-closed_at.rest.now closed.0 c.requires g.met.T.Written.begins closed.1 closed.2
-      (λ b r hb e'. c.in-Some-closed_at.ensures.exact b r hb e') inside in
+    (λ b r hb e'. c.in-Some-closed_at.ensures.exact b r hb e') inside in
     (c.new.ensures ∙ empty.0, empty.1)
 
 pub returns-clause-found : goal.returns-clause-found
@@ -25,4 +25,4 @@ pub returns-clause-exact : goal.returns-clause-exact
 returns-clause-exact g c = λ spelled rest elements is e.
     let inside = inside_of g.T.Written.is_text c.args.close c.args.opening c.args.text.now spelled rest c.in-Some.inner.now elements c.requires g.met.T.Written.begins (λ b r hb hr e'. c.in-Some.ensures.exact b r hb hr e') is e in
     inside_filled g.T.Written.is_text c.args.close (λ es. IfOk c.filled_at.result (λ o. IsSomeAnd o (λ p. (p.0 ≡ es) × (p.1.now ≡ rest)))) elements c.in-Some.inner.now rest
-      (λ b r hb e'. c.in_default-closed_at.ensures.exact b r hb e') (λ first more x xs h t e'. c.filled_at.ensures.exact first more rest x xs h t e') inside
+    (λ b r hb e'. c.in_default-closed_at.ensures.exact b r hb e') (λ first more x xs h t e'. c.filled_at.ensures.exact first more rest x xs h t e') inside

@@ -77,8 +77,7 @@ returns-clause-exact c = λ spelled rest x1 y1 x2 y2 is e.
     let read_1 = c.in_ok-x1.ensures.found in
     let read_2 = c.in_ok-y1.ensures.found in
     let read_3 = c.in_ok-x2.ensures.found in
-    let read_4 = c.in_ok-y2.ensures.found in
-    (
+    let read_4 = c.in_ok-y2.ensures.found in (
       number_back read_1.0 c.in_ok-x1.x1 read_1.1 ∙ one.0,
       number_back read_2.2 c.in_ok-y1.y1 read_2.5 ∙ two.0,
       number_back read_3.2 c.in_ok-x2.x2 read_3.5 ∙ three.0,

@@ -1,4 +1,3 @@
-use Rattle.std.proofs.Common.{◌∙◌}
 use Rattle.rdb_script.proofs.RectLemmas.{same_list}
 use Rattle.rdb_script.proofs.values.numbers.rect_at.Goals as goal
 

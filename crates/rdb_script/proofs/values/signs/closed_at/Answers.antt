@@ -1,4 +1,4 @@
-use Rattle.std.proofs.Common.{◌∷◌, ◌++◌, sym, ◌∙◌}
+use Rattle.std.proofs.Common.{◌∷◌, sym, ◌∙◌}
 use Rattle.rdb_script.proofs.BlankLemmas.{after_same}
 use Rattle.rdb_script.proofs.values.signs.closed_at.Goals as goal
 
