@@ -3,6 +3,8 @@ use Rattle.std.proofs.Common.{◌≡◌, ℕ, Bool, List, Option, Some, None, re
 use Rattle.rdb_base.specs.declared.operation.Op.{Op}
 use Rattle.rdb_base.specs.declared.operation.Op.TheVariants as op
 use Rattle.rdb_base.specs.declared.operation.How.{How}
+use Rattle.rdb_base.specs.declared.operation.Place.{Place}
+use Rattle.rdb_base.specs.declared.operation.Place.TheVariants as place
 use Rattle.rdb_base.specs.declared.value.Rect.{Rect}
 use Rattle.rdb_base.specs.declared.value.Value.{Value}
 use Rattle.rdb_schema.specs.declared.schema.Schema.{Schema}
@@ -72,3 +74,16 @@ prefix_exact schema text w r v s m way o call we re ve se me ye exact h =
 
 pub none_is : {X : Type 0} (x : X) → None ≡ Some x → ⊥
 none_is x e = cc
+
+abbrev some_call : Option (List ℕ) → Op → Option Call
+some_call from asked = Some (record { from = from; op = asked })
+
+-- the operation that was found is the one that is meant
+pub same_call : {X : Type 0} (f : X → Op) (from : Option (List ℕ)) (x y : X) (call : Call) → Some x ≡ Some y → call ≡ record { from = from; op = f y } → ◌≡◌ {A = Option Call} (Some (record { from = from; op = f x })) (Some call)
+same_call f from x y call e h = ap (λ z. some_call from (f z)) (some_is x y e) ∙ ap Some (sym h)
+
+abbrev some_origin : Place → Bool → Option Origin
+some_origin at up = Some (record { from = None; place = at; up = up })
+
+pub same_origin : (id : ℕ) (up : Bool) (x y : List Value) → Some x ≡ Some y → ◌≡◌ {A = Option Origin} (Some (record { from = None; place = place.At x id; up = up })) (Some (record { from = None; place = place.At y id; up = up }))
+same_origin id up x y e = ap (λ z. some_origin (place.At z id) up) (some_is x y e)

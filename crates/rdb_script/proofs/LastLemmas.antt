@@ -1,5 +1,6 @@
 -- Values that stand last in a line.
-use Rattle.std.proofs.Common.{◌≡◌, ℕ, ◌≤◌, ◌<◌, Bool, true, false, List, ◌++◌, Option, Some, refl, sym, ap, ◌∙◌, subst, arith}
+use Rattle.std.proofs.Common.{◌≡◌, ℕ, ◌≤◌, ◌<◌, Bool, true, false, List, ◌++◌, Option, Some, None, refl, sym, ap, ◌∙◌, subst, arith}
+use Rattle.std.specs.Prelude.{IsSomeAnd}
 use Rattle.std.proofs.lemmas.Bool.{false≢true}
 use Rattle.rdb_base.specs.declared.value.Value.{Value}
 use Rattle.rdb_base.specs.declared.value.Rect.{Rect}
@@ -29,3 +30,11 @@ left_over rest other no same yes = false≢true (sym no ∙ ap is_end same ∙ y
 
 pub too_long : (schema : Schema) (class len : ℕ) (row other : List Value) → len ≡ capped (row_length schema class row) → 4000 < len → row ≡ other → row_length schema class other ≤ 4000 → ⊥
 too_long schema class len row other l long same short = let e : row_length schema class row ≡ row_length schema class other = ap (row_length schema class) same in omega arith
+
+-- what is known of what was found, once it is seen
+pub at_none : {X : Type 0} (P : X → Type 0) (r : Option X) → r ≡ None → IsSomeAnd r P → ⊥
+at_none P None e h = h
+at_none P (Some x) e h = cc
+
+pub at_some : {X : Type 0} (P : X → Type 0) (r : Option X) (x : X) → r ≡ Some x → IsSomeAnd r P → P x
+at_some {X = X} P r x e h = subst (λ (o : Option X). IsSomeAnd o P) e h

@@ -1,6 +1,7 @@
 -- How far the reader of a script has come.
 use Rattle.std.proofs.Common.{◌≡◌, ℕ, ◌+◌, Bool, true, false, not, List, [], ◌∷◌, ◌++◌, length, Option, Some, None, refl, sym, ap, ◌∙◌, subst, arith, append_assoc, length-append}
 use Rattle.std.specs.Prelude.{is_some}
+use Rattle.std.specs.Bool.{OnTrue}
 use Rattle.std.proofs.lemmas.Bool.{false≢true}
 use Rattle.std.proofs.lemmas.List.{append-nil}
 use Rattle.rdb_schema.specs.declared.schema.Schema.{Schema}
@@ -119,3 +120,11 @@ only_script schema text rest p script on e s =
     let same = runs-nil schema p s.end (lines rest) e (on s.end s.runs) in
     let made : Progress → Script = λ (q : Progress). record { stop = q.stop; units = q.units } in
     ap made (sym same) ∙ sym s.is
+
+-- what the answer says of the step
+pub took_step : (schema : Schema) (p next : Progress) (line : List ℕ) (took : Bool) → took ≡ true → OnTrue took (IsStep schema p line next) → IsStep schema p line next
+took_step schema p next line true e h = h
+took_step schema p next line false e h = absurd (false≢true e)
+
+pub only_took : (schema : Schema) (p next : Progress) (line : List ℕ) (took is : Bool) → took ≡ is → ((other : Progress) → IsStep schema p line other → (took ≡ true) × (other ≡ next)) → IsOnlyStep schema p line is next
+only_took schema p next line took is e h = λ other s. (sym e ∙ (h other s).0, (h other s).1)
