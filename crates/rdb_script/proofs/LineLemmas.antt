@@ -63,7 +63,7 @@ first_line text place e = by_test (ltb (position_or_len (λ b. eqb b 10) text) (
         let lt : position_or_len (λ b. eqb b 10) text < length text = ltb-true (position_or_len (λ b. eqb b 10) text) (length text) t in
         subst (λ (n : ℕ). lines text ≡ without_return (take place text) ∷ lines (drop n text)) (sym (add-one place))
         (subst (λ (n : ℕ). lines text ≡ without_return (take n text) ∷ lines (drop (suc n) text)) (sym same)
-          (line_front text (position_or_len (λ b. eqb b 10) text) lt (λ k l. fails_before_first (λ b. eqb b 10) text k 0 l) (passes_at_first (λ b. eqb b 10) text 0 lt)))
+        (line_front text (position_or_len (λ b. eqb b 10) text) lt (λ k l. fails_before_first (λ b. eqb b 10) text k 0 l) (passes_at_first (λ b. eqb b 10) text 0 lt)))
 
 pub only_line : (text : List ℕ) → 0 < length text → None ≡ position (λ b. eqb b 10) text → lines text ≡ text ∷ lines []
 unfolding lines

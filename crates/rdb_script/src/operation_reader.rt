@@ -38,12 +38,7 @@ fn new(alloc: Global, schema: &Schema, text: &[u8]) -> Result<Option<Call>, NoMe
     }))
 }
 
-fn get(
-    alloc: Global,
-    schema: &Schema,
-    names: &Names,
-    text: &[u8],
-) -> Result<Option<Call>, NoMemory>
+fn get(alloc: Global, schema: &Schema, names: &Names, text: &[u8]) -> Result<Option<Call>, NoMemory>
     ensures found { IfOk result (λ o. IfSome o (λ call. IsGet schema.now names.now text.now call)) }
     ensures exact { (call : Called) → IsGet schema.now names.now text.now call → IfOk result (λ o. o ≡ Some call) }
 {
@@ -67,12 +62,7 @@ fn get(
     }))
 }
 
-fn put(
-    alloc: Global,
-    schema: &Schema,
-    names: &Names,
-    text: &[u8],
-) -> Result<Option<Call>, NoMemory>
+fn put(alloc: Global, schema: &Schema, names: &Names, text: &[u8]) -> Result<Option<Call>, NoMemory>
     ensures found { IfOk result (λ o. IfSome o (λ call. IsPut schema.now names.now text.now call)) }
     ensures exact { (call : Called) → IsPut schema.now names.now text.now call → IfOk result (λ o. o ≡ Some call) }
 {
@@ -97,12 +87,7 @@ fn put(
     }))
 }
 
-fn del(
-    alloc: Global,
-    schema: &Schema,
-    names: &Names,
-    text: &[u8],
-) -> Result<Option<Call>, NoMemory>
+fn del(alloc: Global, schema: &Schema, names: &Names, text: &[u8]) -> Result<Option<Call>, NoMemory>
     ensures found { IfOk result (λ o. IfSome o (λ call. IsDel schema.now names.now text.now call)) }
     ensures exact { (call : Called) → IsDel schema.now names.now text.now call → IfOk result (λ o. o ≡ Some call) }
 {

@@ -85,9 +85,7 @@ fn assigned_by(op: &Op) -> Option<Assigned>
 fn is_watched(watched: &[Member], event: Member) -> bool
     ensures { result ≡ is_watched watched.now event }
 {
-    watched
-        .iter()
-        .any(|other| other.class == event.class && other.place == event.place)
+    watched.iter().any(|other| other.class == event.class && other.place == event.place)
 }
 
 /// Assigns what a line assigns.

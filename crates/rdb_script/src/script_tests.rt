@@ -182,7 +182,10 @@ fn lines_that_stand_where_they_may_not_are_refused(rt: HostRuntime) -> Result<()
         (b"poll Item.came\n", 1),
         (b"watch Item.came\npoll Item.gone\n", 2),
         (b"watch Item.came\nwatch Item.came\n", 2),
-        (b"watch Note.came\nwatch Item.came\npoll Note.came\nwatch Note.came\n", 4),
+        (
+            b"watch Note.came\nwatch Item.came\npoll Note.came\nwatch Note.came\n",
+            4,
+        ),
     ];
     for (text, line) in refused {
         expect_refused(&rt, rt.alloc(), &schema, text, line);
@@ -229,17 +232,41 @@ fn words_that_the_schema_does_not_have_are_refused(rt: HostRuntime) -> Result<()
 fn names_that_stand_for_something_else_are_refused(rt: HostRuntime) -> Result<(), Fail> {
     let schema = shop(rt.alloc())?;
     let refused: [(&[u8], u64); 11] = [
-        (b"begin rw\nget Item x\nx = find Item.byHash {1}\ncommit\n", 2),
+        (
+            b"begin rw\nget Item x\nx = find Item.byHash {1}\ncommit\n",
+            2,
+        ),
         (b"begin rw\nget Item Item\ncommit\n", 2),
         (b"begin rw\nx = new Note {(),1}\nget Item x\ncommit\n", 3),
-        (b"begin rw\nx = seek Note.byKind first\ndel Item x\ncommit\n", 3),
-        (b"begin rw\nx = find Item.byHash {1}\nx = new Note {(),1}\nget Item x\ncommit\n", 4),
+        (
+            b"begin rw\nx = seek Note.byKind first\ndel Item x\ncommit\n",
+            3,
+        ),
+        (
+            b"begin rw\nx = find Item.byHash {1}\nx = new Note {(),1}\nget Item x\ncommit\n",
+            4,
+        ),
         (b"begin rw\nseek Item.byStock next x\ncommit\n", 2),
-        (b"begin rw\nx = find Item.byStock {1}\nseek Item.byStock next x\ncommit\n", 3),
-        (b"begin rw\nx = seek Item.byName first\nseek Item.byStock prev x\ncommit\n", 3),
-        (b"begin rw\nx = seek Note.byKind first\nseek Item.byHash prev x\ncommit\n", 3),
-        (b"begin rw\nx = seek Item.byStock first\nx = find Item.byHash {1}\nseek Item.byStock next x\ncommit\n", 4),
-        (b"begin rw\nx = seek Item.byStock first\nseek Item.byStock next x x\ncommit\n", 3),
+        (
+            b"begin rw\nx = find Item.byStock {1}\nseek Item.byStock next x\ncommit\n",
+            3,
+        ),
+        (
+            b"begin rw\nx = seek Item.byName first\nseek Item.byStock prev x\ncommit\n",
+            3,
+        ),
+        (
+            b"begin rw\nx = seek Note.byKind first\nseek Item.byHash prev x\ncommit\n",
+            3,
+        ),
+        (
+            b"begin rw\nx = seek Item.byStock first\nx = find Item.byHash {1}\nseek Item.byStock next x\ncommit\n",
+            4,
+        ),
+        (
+            b"begin rw\nx = seek Item.byStock first\nseek Item.byStock next x x\ncommit\n",
+            3,
+        ),
     ];
     for (text, line) in refused {
         expect_refused(&rt, rt.alloc(), &schema, text, line);
@@ -279,9 +306,24 @@ fn expect_repeated(
 #[test]
 fn texts_and_vectors_that_are_too_long_are_refused(rt: HostRuntime) -> Result<(), Fail> {
     let alloc = rt.alloc();
-    expect_repeated(&rt, alloc, ("begin rw\nnew Item {1,\"", "a", 256, "\",[0,0,0,0]}"), 2)?;
-    expect_repeated(&rt, alloc, ("begin rw\nprefix Item.pName exact \"", "a", 256, "\""), 2)?;
-    expect_repeated(&rt, alloc, ("begin rw\nnew Note {(\"\"", ",\"\"", 64, "),1}"), 2)
+    expect_repeated(
+        &rt,
+        alloc,
+        ("begin rw\nnew Item {1,\"", "a", 256, "\",[0,0,0,0]}"),
+        2,
+    )?;
+    expect_repeated(
+        &rt,
+        alloc,
+        ("begin rw\nprefix Item.pName exact \"", "a", 256, "\""),
+        2,
+    )?;
+    expect_repeated(
+        &rt,
+        alloc,
+        ("begin rw\nnew Note {(\"\"", ",\"\"", 64, "),1}"),
+        2,
+    )
 }
 
 #[test]
@@ -305,19 +347,45 @@ fn a_transaction_has_at_most_1_000_operations(rt: HostRuntime) -> Result<(), Fai
     let full = repeated(alloc, "begin ro\n", "count Item\n", 1_000, "commit\n")?;
     let script = script(alloc, &schema, full.as_bytes())?;
     assert_eq!(rt; script.units.len(), 1);
-    expect_repeated(&rt, alloc, ("begin ro\n", "count Item\n", 1_001, "x"), 1_002)?;
-    expect_repeated(&rt, alloc, ("begin ro\n#\n", "\ncount Item\n", 1_001, ""), 2_004)
+    expect_repeated(
+        &rt,
+        alloc,
+        ("begin ro\n", "count Item\n", 1_001, "x"),
+        1_002,
+    )?;
+    expect_repeated(
+        &rt,
+        alloc,
+        ("begin ro\n#\n", "\ncount Item\n", 1_001, ""),
+        2_004,
+    )
 }
 
 #[test]
 fn a_script_has_at_most_10_000_transactions(rt: HostRuntime) -> Result<(), Fail> {
     let alloc = rt.alloc();
     let schema = shop(alloc)?;
-    let full = repeated(alloc, "stop 1\n", "begin ro\ncommit\n", 10_000, "watch Item.came")?;
+    let full = repeated(
+        alloc,
+        "stop 1\n",
+        "begin ro\ncommit\n",
+        10_000,
+        "watch Item.came",
+    )?;
     let script = script(alloc, &schema, full.as_bytes())?;
     assert_eq!(rt; script.units.len(), 10_001);
-    expect_repeated(&rt, alloc, ("", "begin ro\nrollback\n", 10_000, "begin rw\n"), 20_001)?;
-    expect_repeated(&rt, alloc, ("\n", "begin ro\ncommit\n", 10_000, "begin rw\nx"), 20_002)
+    expect_repeated(
+        &rt,
+        alloc,
+        ("", "begin ro\nrollback\n", 10_000, "begin rw\n"),
+        20_001,
+    )?;
+    expect_repeated(
+        &rt,
+        alloc,
+        ("\n", "begin ro\ncommit\n", 10_000, "begin rw\nx"),
+        20_002,
+    )
 }
 
 /// The key of one number.
@@ -328,12 +396,7 @@ fn key(alloc: Global, number: i128) -> Result<Row, NoMemory> {
 }
 
 /// The lines, in a transaction of their own, are operations of which the last is this.
-fn expect_last(
-    rt: &impl Abort,
-    alloc: Global,
-    lines: &str,
-    line: &ScriptLine,
-) -> Result<(), Fail> {
+fn expect_last(rt: &impl Abort, alloc: Global, lines: &str, line: &ScriptLine) -> Result<(), Fail> {
     let schema = shop(alloc)?;
     let text = format!(in alloc; "begin rw retry 7\n{lines}\ncommit")?;
     let script = script(alloc, &schema, text.as_bytes())?;
@@ -400,12 +463,54 @@ fn seeks_begin_where_the_table_of_cursors_says(rt: HostRuntime) -> Result<(), Fa
             id,
         })
     };
-    expect_seek(&rt, alloc, "seek Item.byStock first", None, Place::Start, true)?;
-    expect_seek(&rt, alloc, "seek Item.byStock last", None, Place::End, false)?;
-    expect_seek(&rt, alloc, "seek Item.byStock ge {20}", None, at(20, 0)?, true)?;
-    expect_seek(&rt, alloc, "seek Item.byStock gt {20}", None, at(20, u64::MAX)?, true)?;
-    expect_seek(&rt, alloc, "seek Item.byStock le {20}", None, at(20, u64::MAX)?, false)?;
-    expect_seek(&rt, alloc, "seek Item.byStock lt {20}", None, at(20, 0)?, false)?;
+    expect_seek(
+        &rt,
+        alloc,
+        "seek Item.byStock first",
+        None,
+        Place::Start,
+        true,
+    )?;
+    expect_seek(
+        &rt,
+        alloc,
+        "seek Item.byStock last",
+        None,
+        Place::End,
+        false,
+    )?;
+    expect_seek(
+        &rt,
+        alloc,
+        "seek Item.byStock ge {20}",
+        None,
+        at(20, 0)?,
+        true,
+    )?;
+    expect_seek(
+        &rt,
+        alloc,
+        "seek Item.byStock gt {20}",
+        None,
+        at(20, u64::MAX)?,
+        true,
+    )?;
+    expect_seek(
+        &rt,
+        alloc,
+        "seek Item.byStock le {20}",
+        None,
+        at(20, u64::MAX)?,
+        false,
+    )?;
+    expect_seek(
+        &rt,
+        alloc,
+        "seek Item.byStock lt {20}",
+        None,
+        at(20, 0)?,
+        false,
+    )?;
     Ok(())
 }
 
@@ -435,7 +540,12 @@ fn operations_are_read_as_written(rt: HostRuntime) -> Result<(), Fail> {
         rect,
         inside: true,
     };
-    expect_last(&rt, alloc, "\t area  Item.byArea inside [-1,2,3,04]\t", &plain(area))?;
+    expect_last(
+        &rt,
+        alloc,
+        "\t area  Item.byArea inside [-1,2,3,04]\t",
+        &plain(area),
+    )?;
     let text = Text::of(alloc, "a\"")?;
     let prefix = Op::Prefix {
         class: 0,
@@ -443,9 +553,22 @@ fn operations_are_read_as_written(rt: HostRuntime) -> Result<(), Fail> {
         text,
         how: How::Longest,
     };
-    expect_last(&rt, alloc, "prefix Item.pName longest \"\\x61\\\"\"\r", &plain(prefix))?;
+    expect_last(
+        &rt,
+        alloc,
+        "prefix Item.pName longest \"\\x61\\\"\"\r",
+        &plain(prefix),
+    )?;
     expect_last(&rt, alloc, "count Note", &plain(Op::Count { class: 1 }))?;
-    expect_last(&rt, alloc, "get Item 0018446744073709551615", &plain(Op::Get { class: 0, id: u64::MAX }))
+    expect_last(
+        &rt,
+        alloc,
+        "get Item 0018446744073709551615",
+        &plain(Op::Get {
+            class: 0,
+            id: u64::MAX,
+        }),
+    )
 }
 
 #[test]
@@ -467,14 +590,20 @@ fn names_are_those_of_the_schema_language(rt: HostRuntime) -> Result<(), Fail> {
         from: Some(Text::of(alloc, "new")?),
         op: Op::Del { class: 0, id: 0 },
     };
-    expect_last(&rt, alloc, "new = find Item.byHash {5}\ndel Item new", &line)
+    expect_last(
+        &rt,
+        alloc,
+        "new = find Item.byHash {5}\ndel Item new",
+        &line,
+    )
 }
 
 #[test]
 fn units_stand_in_order(rt: HostRuntime) -> Result<(), Fail> {
     let alloc = rt.alloc();
     let schema = shop(alloc)?;
-    let text = b"# first\r\n\r\nstop 007\nwatch Item.gone\n begin ro\ncount Item\n\trollback\npoll Item.gone";
+    let text =
+        b"# first\r\n\r\nstop 007\nwatch Item.gone\n begin ro\ncount Item\n\trollback\npoll Item.gone";
     let script = script(alloc, &schema, text)?;
     assert_eq!(rt; script.stop, Some(7));
     assert_eq!(rt; script.units.len(), 3);

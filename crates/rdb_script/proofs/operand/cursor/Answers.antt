@@ -10,9 +10,9 @@ returns-clause-found c =
     let named = is_named c.next_word.result.0.now c.in_ok-name.name.now c.in_ok-name.ensures in
     let same : c.in_ok-name.name.now ≡ word c.args.text.now = named.1 ∙ c.next_word.ensures.word in (
       is_cursor c.args.names.now c.args.index c.args.text.now
-        (sym (ap is_name c.next_word.ensures.word) ∙ named.0)
-        (sym (ap (holds_place c.args.names.now c.args.index) same) ∙ sym c.holds_place.ensures ∙ c.if-not-holds_place.false)
-        (sym (ap is_end c.next_word.ensures.behind) ∙ sym c.is_end.ensures ∙ c.if-not-is_end.false),
+          (sym (ap is_name c.next_word.ensures.word) ∙ named.0)
+          (sym (ap (holds_place c.args.names.now c.args.index) same) ∙ sym c.holds_place.ensures ∙ c.if-not-holds_place.false)
+          (sym (ap is_end c.next_word.ensures.behind) ∙ sym c.is_end.ensures ∙ c.if-not-is_end.false),
       same,
     )
 
