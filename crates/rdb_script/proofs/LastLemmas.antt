@@ -26,7 +26,7 @@ text_found text front spelled rest words f is e last = record { spelled = spelle
 
 -- what is left isn't blank, and yet it is
 pub left_over : (rest other : List ℕ) → is_end rest ≡ false → rest ≡ other → is_end other ≡ true → ⊥
-left_over rest other no same yes = false≢true (sym no ∙ ap is_end same ∙ yes)
+left_over rest other some same none = false≢true (sym some ∙ ap is_end same ∙ none)
 
 pub too_long : (schema : Schema) (class len : ℕ) (row other : List Value) → len ≡ capped (row_length schema class row) → 4000 < len → row ≡ other → row_length schema class other ≤ 4000 → ⊥
 too_long schema class len row other l long same short = let e : row_length schema class row ≡ row_length schema class other = ap (row_length schema class) same in omega arith
