@@ -454,15 +454,17 @@ fn expect_seek(
     )
 }
 
+/// The place of a key of one number and an id.
+fn at(alloc: Global, number: i128, id: u64) -> Result<Place, NoMemory> {
+    Ok(Place::At {
+        key: key(alloc, number)?,
+        id,
+    })
+}
+
 #[test]
 fn seeks_begin_where_the_table_of_cursors_says(rt: HostRuntime) -> Result<(), Fail> {
     let alloc = rt.alloc();
-    let at = |number, id| -> Result<Place, NoMemory> {
-        Ok(Place::At {
-            key: key(alloc, number)?,
-            id,
-        })
-    };
     expect_seek(
         &rt,
         alloc,
@@ -484,7 +486,7 @@ fn seeks_begin_where_the_table_of_cursors_says(rt: HostRuntime) -> Result<(), Fa
         alloc,
         "seek Item.byStock ge {20}",
         None,
-        at(20, 0)?,
+        at(alloc, 20, 0)?,
         true,
     )?;
     expect_seek(
@@ -492,7 +494,7 @@ fn seeks_begin_where_the_table_of_cursors_says(rt: HostRuntime) -> Result<(), Fa
         alloc,
         "seek Item.byStock gt {20}",
         None,
-        at(20, u64::MAX)?,
+        at(alloc, 20, u64::MAX)?,
         true,
     )?;
     expect_seek(
@@ -500,7 +502,7 @@ fn seeks_begin_where_the_table_of_cursors_says(rt: HostRuntime) -> Result<(), Fa
         alloc,
         "seek Item.byStock le {20}",
         None,
-        at(20, u64::MAX)?,
+        at(alloc, 20, u64::MAX)?,
         false,
     )?;
     expect_seek(
@@ -508,7 +510,7 @@ fn seeks_begin_where_the_table_of_cursors_says(rt: HostRuntime) -> Result<(), Fa
         alloc,
         "seek Item.byStock lt {20}",
         None,
-        at(20, 0)?,
+        at(alloc, 20, 0)?,
         false,
     )?;
     Ok(())
