@@ -36,6 +36,17 @@ pub fn text_of(bytes: &[u8]) -> Option<&str>
     }
 }
 
+/// Whether the bytes are UTF-8. The cost grows with them.
+pub fn is_text(bytes: &[u8]) -> bool
+    ensures yes { OnTrue result (IsUtf8 bytes.now) }
+    ensures no { OnFalse result (¬ IsUtf8 bytes.now) }
+{
+    match str::from_utf8(bytes) {
+        Ok(_) => true,
+        Err(_) => false,
+    }
+}
+
 /// The number below 2^64 of which these digits are the printed form, which has no leading zero. The cost grows with
 /// the digits.
 pub fn printed(digits: &[u8]) -> Option<u64>

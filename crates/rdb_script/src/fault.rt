@@ -25,3 +25,24 @@ impl From<NoMemory> for ScheduleFault {
         ScheduleFault::NoMemory
     }
 }
+
+/// The first fault of a script.
+#[derive(Clone, Copy, Debug, PartialEq, Eq, Error)]
+pub enum ScriptFault {
+    /// The number of the line, from 1.
+    #[error("the script is refused at line {line}")]
+    Line { line: u64 },
+    #[error("out of memory")]
+    NoMemory,
+}
+
+impl From<NoMemory> for ScriptFault {
+    ghost use Rattle.std.specs.Prelude.{◌≡◌};
+    ghost use Rattle.rdb_script.specs.declared.fault.ScriptFault.TheVariants as faults;
+
+    ghost from_gives = { λ _ fault. fault ≡ faults.NoMemory };
+
+    fn from(_error: NoMemory) -> ScriptFault {
+        ScriptFault::NoMemory
+    }
+}
