@@ -1,13 +1,13 @@
 pub mod BadSchema
 pub mod CheckLemmas
 pub mod CommandLemmas
-pub mod DecimalLemmas
 pub mod JobLemmas
-pub mod PlainClientLemmas
+pub mod JobParts
 pub mod PlainFits
 pub mod PlainRunLemmas
 pub mod PlainShape
 pub mod ReadingLemmas
+pub mod ScriptLines
 pub mod TellingLemmas
 pub mod CommandLineMeaning
 pub mod CommandLineParts
