@@ -9,6 +9,7 @@ pub mod PlainShape
 pub mod ReadingLemmas
 pub mod ScriptLines
 pub mod TellingLemmas
+pub mod WorkLemmas
 pub mod CommandLineMeaning
 pub mod CommandLineParts
 pub mod CommandLineReading

@@ -39,9 +39,10 @@ made_by (asked ∷ others) = makes asked + made_by others
 
 -- the operations with one more
 numbered-snoc : (next : ℕ) (asked : List Op) (one : Op) → numbered next (asked ++ one ∷ []) ≡ numbered next asked ++ operation_of (next + made_by asked) one ∷ []
-numbered-snoc next [] one = ap (λ (k : ℕ). operation_of k one ∷ []) (omega arith)
+numbered-snoc next [] one = let same : next ≡ next + made_by [] = omega arith in ap (λ (k : ℕ). operation_of k one ∷ []) same
 numbered-snoc next (a ∷ asked) one =
-    ap (λ (os : List Op). operation_of next a ∷ os) (numbered-snoc (next + makes a) asked one ∙ ap (λ (k : ℕ). numbered (next + makes a) asked ++ operation_of k one ∷ []) (omega arith))
+    let same : next + makes a + made_by asked ≡ next + made_by (a ∷ asked) = omega arith in
+    ap (λ (os : List Op). operation_of next a ∷ os) (numbered-snoc (next + makes a) asked one ∙ ap (λ (k : ℕ). numbered (next + makes a) asked ++ operation_of k one ∷ []) same)
 
 -- the rows made with one more
 made_by-snoc : (asked : List Op) (one : Op) → made_by (asked ++ one ∷ []) ≡ made_by asked + makes one
@@ -174,13 +175,15 @@ none_wrong t s c [] next first db mid [] made all e r h = refl
 none_wrong t s c [] next first db mid (x ∷ done) made all e r h = cc
 none_wrong t s c (a ∷ asked) next first db mid [] made all e r h = cc
 none_wrong t s c (a ∷ asked) next first db mid ((p, told) ∷ done) made all e r h =
-    by_op {λ (o : Op). p ∷ map (λ (x : Op × Reply). x.0) done ≡ operation_of next o ∷ numbered (next + makes o) asked → wrong_reply (schema_of s c) db made first ((p, told) ∷ done) ≡ None} t a all.0
+    by_op (λ (o : Op). p ∷ map (λ (x : Op × Reply). x.0) done ≡ operation_of next o ∷ numbered (next + makes o) asked → wrong_reply (schema_of s c) db made first ((p, told) ∷ done) ≡ None) t a all.0
     (λ row id fit same.
+    let both : p ∷ map (λ (x : Op × Reply). x.0) done ≡ op.New 0 row next ∷ numbered (next + 1) asked = same in
     let is : p ≡ op.New 0 row next = cc in
     let others : map (λ (x : Op × Reply). x.0) done ≡ numbered (next + 1) asked = cc in
     new_step s c row next first db mid p told done made is r h
     (λ m at ran. none_wrong t s c asked (next + 1) (first + 1) (answer (schema_of s c) db (op.New 0 row next)).1 mid done (made ++ (0, m) ∷ []) all.1 others ran (below_more made next m at h)))
     (λ id same.
+    let both : p ∷ map (λ (x : Op × Reply). x.0) done ≡ op.Get 0 id ∷ numbered next asked = same in
     let is : p ≡ op.Get 0 id = cc in
     let others : map (λ (x : Op × Reply). x.0) done ≡ numbered next asked = cc in
     get_step s c id first db mid p told done made is r

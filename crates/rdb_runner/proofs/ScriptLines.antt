@@ -103,12 +103,14 @@ all_more P (y ∷ xs) x all h = (all.0, all_more P xs x all.1 h)
 below : (n : ℕ) → ltb n 1000 ≡ true → n < 1000
 below n h = grind (arith, nat_tests)
 
+grown : (lines : List ScriptLine) (line : ScriptLine) → length lines < 1000 → length (lines ++ line ∷ []) ≤ 1000
+grown lines line few = let count : length (lines ++ line ∷ []) ≡ length lines + 1 = length-append lines (line ∷ []) in omega arith
+
 one_more : (schema : Schema) (line : ScriptLine) (r : Option Running) → IsWritten schema line.op → option_map_or (takes line.op) r false ≡ true → IsWrittenRun schema r → IsWrittenRun schema (option_map (with_line line) r)
 one_more schema line None said may h = tt
 one_more schema line (Some t) said may h =
     let few = below (length t.lines) (both_true (ltb (length t.lines) 1000) (may_have t.kind line.op) may).0 in
-    let count = length-append t.lines (line ∷ []) in
-    (all_more (λ (l : ScriptLine). IsWritten schema l.op) t.lines line h.0 said, omega arith)
+    (all_more (λ (l : ScriptLine). IsWritten schema l.op) t.lines line h.0 said, grown t.lines line few)
 
 one_ended : (schema : Schema) (units : List ScriptUnit) (commits : Bool) (r : Option Running) → AllByRecursion (IsWrittenUnit schema) units → IsWrittenRun schema r → AllByRecursion (IsWrittenUnit schema) (with_ended units commits r)
 one_ended schema units commits None all h = all
@@ -150,7 +152,7 @@ all_can schema (l ∷ lines) plain h =
 
 chosen : {X : Type 0} → (b : Bool) (x y : X) → cond b (Some x) None ≡ Some y → (b ≡ true) × (x ≡ y)
 chosen true x y e = (refl, cc)
-chosen false x y e = cc
+chosen false x y e = let no : None ≡ Some y = e in cc
 
 -- what can be run of a job's lines
 pub record AreRunnable (schema : Schema) (lines : List ScriptLine) : Type 0 where
@@ -161,18 +163,18 @@ of_unit : (schema : Schema) (u : ScriptUnit) (lines : List ScriptLine) → IsWri
 of_unit schema (unit.Tx kind.ReadWrite retries ls true) lines h e =
     let t = chosen (list_all is_plain_line ls) ls lines e in
     subst (AreRunnable schema) t.1 (record { each = all_can schema ls t.0 h.0; few = h.1 })
-of_unit schema (unit.Tx kind.ReadWrite retries ls false) lines h e = cc
-of_unit schema (unit.Tx kind.ReadOnly retries ls commits) lines h e = cc
-of_unit schema (unit.Watch class event) lines h e = cc
-of_unit schema (unit.Poll class event) lines h e = cc
+of_unit schema (unit.Tx kind.ReadWrite retries ls false) lines h e = let no : None ≡ Some lines = e in cc
+of_unit schema (unit.Tx kind.ReadOnly retries ls commits) lines h e = let no : None ≡ Some lines = e in cc
+of_unit schema (unit.Watch class event) lines h e = let no : None ≡ Some lines = e in cc
+of_unit schema (unit.Poll class event) lines h e = let no : None ≡ Some lines = e in cc
 
 of_units : (schema : Schema) (units : List ScriptUnit) (lines : List ScriptLine) → AllByRecursion (IsWrittenUnit schema) units → only_unit units ≡ Some lines → AreRunnable schema lines
-of_units schema [] lines all e = cc
+of_units schema [] lines all e = let no : None ≡ Some lines = e in cc
 of_units schema (u ∷ []) lines all e = of_unit schema u lines all.0 e
-of_units schema (u ∷ v ∷ units) lines all e = cc
+of_units schema (u ∷ v ∷ units) lines all e = let no : None ≡ Some lines = e in cc
 
 unstopped : (b : Bool) (found : Option (List ScriptLine)) (lines : List ScriptLine) → cond b None found ≡ Some lines → found ≡ Some lines
-unstopped true found lines e = cc
+unstopped true found lines e = let no : None ≡ Some lines = e in cc
 unstopped false found lines e = e
 
 -- the lines of a plain script can be run

@@ -24,10 +24,14 @@ is_plain_op _ = false
 abbrev pub is_plain_line : ScriptLine → Bool
 is_plain_line line = not (is_some line.from) && is_plain_op line.op
 
+-- the lines, where each is such a line
+abbrev pub if_plain : List ScriptLine → Option (List ScriptLine)
+if_plain lines = if list_all is_plain_line lines then Some lines else None
+
 -- the lines of a transaction that may write and commits, where each is such a line; how often it would be begun again has no
 -- effect, since the only client meets no conflict
 abbrev pub plain_unit : ScriptUnit → Option (List ScriptLine)
-plain_unit (unit.Tx kind.ReadWrite retries lines true) = if list_all is_plain_line lines then Some lines else None
+plain_unit (unit.Tx kind.ReadWrite retries lines true) = if_plain lines
 plain_unit _ = None
 
 -- the lines of one such transaction and nothing else

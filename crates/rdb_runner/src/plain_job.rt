@@ -2,12 +2,12 @@
 
 ghost use Rattle.std.specs.Prelude.{◌≡◌, List, IfOk, IfErr, IfSome, IfNone, Some, None};
 ghost use Rattle.std.specs.List.{list_all};
-ghost use Rattle.rdb_runner.specs.PlainJob.{is_plain_op, is_plain_line, plain_unit, plain_lines, is_plain_schedule, IsPlainJob, IsOther};
-ghost use Rattle.rdb_runner.specs.PlainSchema.{is_uint4, are_numbers, is_plain_class, is_plain_schema};
+ghost use Rattle.rdb_runner.specs.PlainJob.{is_plain_op, is_plain_line, if_plain, plain_unit, only_unit, plain_lines, is_plain_schedule, IsPlainJob, IsOther};
+ghost use Rattle.rdb_runner.specs.PlainSchema.{is_uint4, are_numbers, is_plain_class, are_plain, is_plain_schema};
 
 use rdb_base::identity::Kind;
 use rdb_base::operation::Op;
-use rdb_schema::schema::{Class, Field, FieldType, Schema};
+use rdb_schema::schema::{Class, Field, FieldType, Group, Schema};
 use rdb_script::item::{Item, Items};
 use rdb_script::unit::{Script, ScriptLine, ScriptLines, Unit};
 
@@ -41,14 +41,21 @@ fn is_plain_class(class: &Class) -> bool
         && class.events.is_empty()
 }
 
+/// Whether there is one class, of the simplest form, and no struct.
+fn are_plain(classes: &[Class], groups: &[Group]) -> bool
+    ensures { result ≡ are_plain classes.now groups.now }
+{
+    match classes {
+        [class] => is_plain_class(class) && groups.is_empty(),
+        _ => false,
+    }
+}
+
 /// Whether a schema is of the simplest form.
 fn is_plain_schema(schema: &Schema) -> bool
     ensures { result ≡ is_plain_schema schema.now }
 {
-    match schema.classes.as_slice() {
-        [class] => is_plain_class(class) && schema.groups.is_empty(),
-        _ => false,
-    }
+    are_plain(schema.classes.as_slice(), schema.groups.as_slice())
 }
 
 /// Whether a schedule is of the simplest form.
@@ -91,6 +98,18 @@ fn are_plain_lines(lines: &[ScriptLine]) -> bool
     lines.iter().all(is_plain_line)
 }
 
+/// The lines, where each is of the simplest form.
+fn if_plain(lines: &ScriptLines) -> Option<&ScriptLines>
+    ensures some { IfSome result (λ found. if_plain lines.now ≡ Some found.now) }
+    ensures none { IfNone result (if_plain lines.now ≡ None) }
+{
+    if are_plain_lines(lines.as_slice()) {
+        Some(lines)
+    } else {
+        None
+    }
+}
+
 /// The lines of a unit of the simplest form, where it is one.
 fn plain_unit(unit: &Unit) -> Option<&ScriptLines>
     ensures some { IfSome result (λ lines. plain_unit unit.now ≡ Some lines.now) }
@@ -102,7 +121,18 @@ fn plain_unit(unit: &Unit) -> Option<&ScriptLines>
             lines,
             commits: true,
             ..
-        } if are_plain_lines(lines.as_slice()) => Some(lines),
+        } => if_plain(lines),
+        _ => None,
+    }
+}
+
+/// The lines of the one unit, of the simplest form, where there is one alone.
+fn only_unit(units: &[Unit]) -> Option<&ScriptLines>
+    ensures some { IfSome result (λ lines. only_unit units.now ≡ Some lines.now) }
+    ensures none { IfNone result (only_unit units.now ≡ None) }
+{
+    match units {
+        [unit] => plain_unit(unit),
         _ => None,
     }
 }
@@ -115,10 +145,7 @@ fn plain_lines(script: &Script) -> Option<&ScriptLines>
     if script.stop.is_some() {
         return None;
     }
-    match script.units.as_slice() {
-        [unit] => plain_unit(unit),
-        _ => None,
-    }
+    only_unit(script.units.as_slice())
 }
 
 /// The lines of a job of the simplest form; else the place, in the order of the words, of the first of its schema, its
