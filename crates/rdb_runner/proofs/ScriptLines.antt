@@ -27,7 +27,8 @@ use Rattle.rdb_script.specs.declared.unit.Unit.TheVariants as unit
 use Rattle.rdb_script.specs.Lines.{behind}
 use Rattle.rdb_script.specs.Scripts.{start, takes, may_have, may_stand, with_line, with_ended, after, IsStep, Runs, IsScript}
 use Rattle.rdb_script.specs.Statements.{Known, IsLastRow, IsCall, IsAsked, IsSaidBy, IsStatement, is_silent, is_assignment}
-use Rattle.rdb_runner.specs.PlainJob.{is_plain_op, is_plain_line, plain_unit, only_unit, plain_lines}
+use Rattle.rdb_script.specs.declared.item.Item.{Item}
+use Rattle.rdb_runner.specs.PlainJob.{is_plain_op, is_plain_line, plain_unit, only_unit, plain_lines, IsPlainJob}
 use Rattle.rdb_runner.specs.Runs.{CanDo, CanRun}
 use Rattle.rdb_runner.proofs.PlainShape.{both_true, none_left}
 
@@ -182,3 +183,9 @@ pub plain_runs : (schema : Schema) (text : List ℕ) (script : Script) (lines : 
 plain_runs schema text script lines h e =
     let sound = runs_sound schema start _ h.end (record { units = tt; running = tt }) h.runs in
     of_units schema h.end.units lines sound.units (unstopped (is_some h.end.stop) (only_unit h.end.units) lines (sym (ap plain_lines h.is) ∙ e))
+
+pub lines_can_run : (schema : Schema) (text : List ℕ) (items : List Item) (script : Script) (lines : List ScriptLine) → IsScript schema text script → IsPlainJob schema items script lines → AllByRecursion (CanRun schema) lines
+lines_can_run schema text items script lines is plain = (plain_runs schema text script lines is plain.script_plain).each
+
+pub lines_are_few : (schema : Schema) (text : List ℕ) (items : List Item) (script : Script) (lines : List ScriptLine) → IsScript schema text script → IsPlainJob schema items script lines → length lines ≤ 1000
+lines_are_few schema text items script lines is plain = (plain_runs schema text script lines is plain.script_plain).few
