@@ -85,12 +85,7 @@ fn report_over(
 
 /// The lines of the report of these texts; else the first fault of the schema, then of the client, then of the schedule,
 /// or the first file that isn't of the simplest form. The cost grows with the texts.
-fn report_of(
-    alloc: Global,
-    schema: &[u8],
-    schedule: &[u8],
-    client: &[u8],
-) -> Result<Lines, Halt>
+fn report_of(alloc: Global, schema: &[u8], schedule: &[u8], client: &[u8]) -> Result<Lines, Halt>
     requires { length schema.now ≤ 16777216 }
     ensures { IsWork schema.now schedule.now client.now result }
 {

@@ -114,7 +114,8 @@ fn a_row_of_two_numbers_is_made_and_read(rt: HostRuntime) -> Result<(), Fail> {
     let mut out = MemorySink::new(alloc, List::new(alloc), List::new(alloc));
     let line = "replay schema schedule client1";
     assert_eq!(rt; status(alloc, line, &mut files, &mut out)?, 0);
-    let report = b"commit 1 client 1 tx 1 begun 0 snapshot 0\n  new Pair {1,2} -> made 1\n  get Pair 1 -> {1,2}\nclosed client 1\nclient 1 done\ntotal commits 1 reads 0 aborts 0 handled 0\n";
+    let report =
+        b"commit 1 client 1 tx 1 begun 0 snapshot 0\n  new Pair {1,2} -> made 1\n  get Pair 1 -> {1,2}\nclosed client 1\nclient 1 done\ntotal commits 1 reads 0 aborts 0 handled 0\n";
     assert!(rt; out.bytes() == report.as_slice());
     Ok(())
 }
@@ -144,21 +145,13 @@ fn each_refusal_has_its_status_and_line(rt: HostRuntime) -> Result<(), Fail> {
             5,
             "regiondb: script 1 line 2\n",
         ),
-        (
-            "replay wide nine faulty",
-            5,
-            "regiondb: script 1 line 2\n",
-        ),
+        ("replay wide nine faulty", 5, "regiondb: script 1 line 2\n"),
         (
             "replay schema nine client1",
             6,
             "regiondb: schedule item 1\n",
         ),
-        (
-            "replay wide nine client1",
-            6,
-            "regiondb: schedule item 1\n",
-        ),
+        ("replay wide nine client1", 6, "regiondb: schedule item 1\n"),
         (
             "replay schema steps client1",
             10,
