@@ -5,6 +5,8 @@
 mod cells;
 mod free;
 mod index;
+#[cfg(test)]
+mod index_caller;
 mod keys;
 mod kind;
 mod laws;
@@ -13,6 +15,10 @@ mod memory;
 mod overlay;
 mod pairs;
 mod places;
+#[cfg(test)]
+mod plain_keys;
+#[cfg(test)]
+mod plain_list;
 mod plan;
 mod reference;
 mod settled;

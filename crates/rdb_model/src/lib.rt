@@ -6,6 +6,8 @@ mod clash;
 pub mod db;
 mod declared;
 pub mod fitting;
+#[cfg(test)]
+mod fixtures;
 mod judging;
 mod keys;
 pub mod laws;
@@ -18,4 +20,6 @@ mod placing;
 mod seek;
 #[cfg(test)]
 mod tests;
+#[cfg(test)]
+mod touch_tests;
 pub mod touching;
