@@ -43,9 +43,19 @@ only_unit _ = None
 abbrev pub plain_lines : Script → Option (List ScriptLine)
 plain_lines script = if is_some script.stop then None else only_unit script.units
 
+-- whether an item is `1*`
+abbrev pub is_first_unit : Item → Bool
+is_first_unit (item.Unit client) = client == 1
+is_first_unit _ = false
+
+-- whether an item is `1`
+abbrev pub is_first_step : Item → Bool
+is_first_step (item.Step client) = client == 1
+is_first_step _ = false
+
 -- whether the items are `1*` and `1`
 abbrev pub is_plain_schedule : List Item → Bool
-is_plain_schedule (item.Unit first ∷ item.Step second ∷ []) = first == 1 && second == 1
+is_plain_schedule (first ∷ second ∷ []) = is_first_unit first && is_first_step second
 is_plain_schedule _ = false
 
 -- a job of the simplest form, with these lines

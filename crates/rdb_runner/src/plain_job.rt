@@ -2,7 +2,7 @@
 
 ghost use Rattle.std.specs.Prelude.{◌≡◌, List, IfOk, IfErr, IfSome, IfNone, Some, None};
 ghost use Rattle.std.specs.List.{list_all};
-ghost use Rattle.rdb_runner.specs.PlainJob.{is_plain_op, is_plain_line, if_plain, plain_unit, only_unit, plain_lines, is_plain_schedule, IsPlainJob, IsOther};
+ghost use Rattle.rdb_runner.specs.PlainJob.{is_plain_op, is_plain_line, if_plain, plain_unit, only_unit, plain_lines, is_first_unit, is_first_step, is_plain_schedule, IsPlainJob, IsOther};
 ghost use Rattle.rdb_runner.specs.PlainSchema.{is_uint4, are_numbers, is_plain_class, are_plain, is_plain_schema};
 
 use rdb_base::identity::Kind;
@@ -58,12 +58,32 @@ fn is_plain_schema(schema: &Schema) -> bool
     are_plain(schema.classes.as_slice(), schema.groups.as_slice())
 }
 
+/// Whether an item is `1*`.
+fn is_first_unit(item: &Item) -> bool
+    ensures { result ≡ is_first_unit item.now }
+{
+    match item {
+        Item::Unit(client) => *client == 1,
+        _ => false,
+    }
+}
+
+/// Whether an item is `1`.
+fn is_first_step(item: &Item) -> bool
+    ensures { result ≡ is_first_step item.now }
+{
+    match item {
+        Item::Step(client) => *client == 1,
+        _ => false,
+    }
+}
+
 /// Whether a schedule is of the simplest form.
 fn is_plain_schedule(items: &[Item]) -> bool
     ensures { result ≡ is_plain_schedule items.now }
 {
     match items {
-        [Item::Unit(first), Item::Step(second)] => *first == 1 && *second == 1,
+        [first, second] => is_first_unit(first) && is_first_step(second),
         _ => false,
     }
 }
