@@ -1,5 +1,5 @@
 -- What follows from how a job ends, status by status.
-use Rattle.std.proofs.Common.{◌≡◌, ℕ, zero, suc, lit<, ◌<◌, ◌≤◌, ◌⊎◌, inl, inr, List, [], ◌∷◌, ◌++◌, length, Option, Some, None, refl, sym, ap, ◌∙◌, subst, arith}
+use Rattle.std.proofs.Common.{◌≡◌, ℕ, zero, suc, get_or, lit<, ◌<◌, ◌≤◌, ◌⊎◌, inl, inr, List, [], ◌∷◌, ◌++◌, length, Option, Some, None, refl, sym, ap, ◌∙◌, subst, arith}
 use Rattle.std.specs.Prelude.{Contains, IfSome, slice_get, codes, true, false, Result, Ok, Err}
 use Rattle.std.proofs.lemmas.Bool.{false≢true}
 use Rattle.rdb_schema.specs.declared.schema.Schema.{Schema}
@@ -326,3 +326,18 @@ work_of names sight schema schedule client (Err (halt.BadScript line)) read w = 
 work_of names sight schema schedule client (Err (halt.BadSchedule number)) read w = (schema, schedule, client, read, w)
 work_of names sight schema schedule client (Err (halt.NotBuilt place)) read w = (schema, schedule, client, read, w)
 work_of names sight schema schedule client (Err halt.NoMemory) read w = read.2
+
+-- a list of three
+three_of : (texts : List (List ℕ)) (a b d : List ℕ) → length texts ≡ 3 → a ≡ get_or texts 0 a → b ≡ get_or texts 1 b → d ≡ get_or texts 2 d → texts ≡ a ∷ b ∷ d ∷ []
+three_of [] a b d three first second third = absurd (omega arith)
+three_of (x ∷ []) a b d three first second third = absurd (omega arith)
+three_of (x ∷ y ∷ []) a b d three first second third = absurd (omega arith)
+three_of (x ∷ y ∷ z ∷ []) a b d three first second third = λ i. sym first i ∷ sym second i ∷ sym third i ∷ []
+three_of (x ∷ y ∷ z ∷ w ∷ texts) a b d three first second third = absurd (omega arith)
+
+-- the three texts that were read, lent
+pub three_lent : (names : List (List ℕ)) (sight : Sight) (texts there : List (List ℕ)) (a b d schema schedule client : List ℕ) → AllRead sight names texts → there ≡ texts → length there ≡ 3
+    → a ≡ get_or there 0 a → b ≡ get_or there 1 b → d ≡ get_or there 2 d → schema ≡ a → schedule ≡ b → client ≡ d → AllRead sight names (names_of schema schedule client)
+three_lent names sight texts there a b d schema schedule client read is three first second third one two last =
+    let lent : a ∷ b ∷ d ∷ [] ≡ names_of schema schedule client = λ i. sym one i ∷ sym two i ∷ sym last i ∷ [] in
+    subst (AllRead sight names) (sym is ∙ three_of there a b d three first second third ∙ lent) read

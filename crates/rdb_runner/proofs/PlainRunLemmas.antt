@@ -183,7 +183,8 @@ none_wrong t s c (a ∷ asked) next first db mid ((p, told) ∷ done) made all e
     new_step s c row next first db mid p told done made is r h
     (λ m at ran. none_wrong t s c asked (next + 1) (first + 1) (answer (schema_of s c) db (op.New 0 row next)).1 mid done (made ++ (0, m) ∷ []) all.1 others ran (below_more made next m at h)))
     (λ id same.
-    let both : p ∷ map (λ (x : Op × Reply). x.0) done ≡ op.Get 0 id ∷ numbered next asked = same in
+    let still : next + 0 ≡ next = omega arith in
+    let both : p ∷ map (λ (x : Op × Reply). x.0) done ≡ op.Get 0 id ∷ numbered next asked = same ∙ ap (λ (k : ℕ). op.Get 0 id ∷ numbered k asked) still in
     let is : p ≡ op.Get 0 id = cc in
     let others : map (λ (x : Op × Reply). x.0) done ≡ numbered next asked = cc in
     get_step s c id first db mid p told done made is r

@@ -18,21 +18,21 @@ use Rattle.rdb_runner.specs.Promise.{IsWork}
 
 -- the client is refused
 pub work_no_script : (text schedule client : List ℕ) (schema : Schema) (h : Halt) → IsRead text schema → IsNoScript schema client h → IsWork text schedule client (Err h)
-work_no_script text schedule client schema (halt.Unreadable place) read no = absurd no
-work_no_script text schedule client schema (halt.BadSchema fault) read no = absurd no
-work_no_script text schedule client schema (halt.BadScript line) read no = record { schema = schema; schema_read = read; refused = no }
-work_no_script text schedule client schema (halt.BadSchedule number) read no = absurd no
-work_no_script text schedule client schema (halt.NotBuilt place) read no = absurd no
-work_no_script text schedule client schema halt.NoMemory read no = tt
+work_no_script text schedule client schema (halt.Unreadable place) read refused = absurd refused
+work_no_script text schedule client schema (halt.BadSchema fault) read refused = absurd refused
+work_no_script text schedule client schema (halt.BadScript line) read refused = record { schema = schema; schema_read = read; refused = refused }
+work_no_script text schedule client schema (halt.BadSchedule number) read refused = absurd refused
+work_no_script text schedule client schema (halt.NotBuilt place) read refused = absurd refused
+work_no_script text schedule client schema halt.NoMemory read refused = tt
 
 -- the schedule is refused
 pub work_no_schedule : (text schedule client : List ℕ) (schema : Schema) (script : Script) (h : Halt) → IsRead text schema → IsScript schema client script → IsNoSchedule schedule h → IsWork text schedule client (Err h)
-work_no_schedule text schedule client schema script (halt.Unreadable place) read has no = absurd no
-work_no_schedule text schedule client schema script (halt.BadSchema fault) read has no = absurd no
-work_no_schedule text schedule client schema script (halt.BadScript line) read has no = absurd no
-work_no_schedule text schedule client schema script (halt.BadSchedule number) read has no = record { schema = schema; script = script; schema_read = read; client_read = has; refused = no }
-work_no_schedule text schedule client schema script (halt.NotBuilt place) read has no = absurd no
-work_no_schedule text schedule client schema script halt.NoMemory read has no = tt
+work_no_schedule text schedule client schema script (halt.Unreadable place) read has refused = absurd refused
+work_no_schedule text schedule client schema script (halt.BadSchema fault) read has refused = absurd refused
+work_no_schedule text schedule client schema script (halt.BadScript line) read has refused = absurd refused
+work_no_schedule text schedule client schema script (halt.BadSchedule number) read has refused = record { schema = schema; script = script; schema_read = read; client_read = has; refused = refused }
+work_no_schedule text schedule client schema script (halt.NotBuilt place) read has refused = absurd refused
+work_no_schedule text schedule client schema script halt.NoMemory read has refused = tt
 
 module _ (text schedule client : List ℕ) (schema : Schema) (items : List Item) (script : Script) (read : IsRead text schema) (has : IsScript schema client script) (timed : IsSchedule 1 schedule items) where
   -- a part isn't of the simplest form

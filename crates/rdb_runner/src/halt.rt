@@ -1,5 +1,7 @@
 //! Why a job ends without its report.
 
+ghost use Rattle.std.specs.Prelude.{◌≡◌};
+
 use rdb_ddl::fault::DdlFault;
 use std::alloc::{AllocError, AllocFailed};
 

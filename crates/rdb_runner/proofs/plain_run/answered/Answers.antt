@@ -8,8 +8,8 @@ use Rattle.rdb_runner.proofs.plain_run.answered.Goals as goal
 pub next_id-next-requires : goal.next_id-next-requires
 next_id-next-requires c = let few = few_made c.args.lines.now c.loop-line.line-index in omega (arith, c.loop-line.invariant.next_id, c.requires.few)
 
-pub apply-reply-requires-fits : goal.apply-reply-requires-fits
-apply-reply-requires-fits c =
+pub apply-requires-clause-fits : goal.apply-requires-clause-fits
+apply-requires-clause-fits c =
     let lines = c.args.lines.now in
     let i = c.loop-line.line-index in
     let line = c.line-item.result in
