@@ -21,4 +21,4 @@ pub returns : goal.returns
 returns c = λ text read. work_other text c.args.schedule.now c.args.client.now c.args.schema.now c.in-Ok-schedule_in.items c.in-Ok.script read c.in-Ok.ensures.read c.in-Ok-schedule_in.ensures.read c.in-Err-plain_job.place c.in-Ok.ensures.only c.in-Ok-schedule_in.ensures.only c.in-Err-plain_job.ensures.other
 
 pub returns-in-Ok-plain_job : goal.returns-in-Ok-plain_job
-returns-in-Ok-plain_job c = λ text read. work_done text c.args.schedule.now c.args.client.now c.args.schema.now c.in-Ok-schedule_in.items c.in-Ok.script read c.in-Ok.ensures.read c.in-Ok-schedule_in.ensures.read c.in-Ok-plain_job.lines.now _ c.in-Ok-plain_job.ensures.plain c.in_ok-lines_of-in-Ok-plain_job.ensures
+returns-in-Ok-plain_job c = λ text read. work_done text c.args.schedule.now c.args.client.now c.args.schema.now c.in-Ok-schedule_in.items c.in-Ok.script read c.in-Ok.ensures.read c.in-Ok-schedule_in.ensures.read c.in-Ok-plain_job.lines.now c.in_ok-lines_of-in-Ok-plain_job.field-0 c.in-Ok-plain_job.ensures.plain c.in_ok-lines_of-in-Ok-plain_job.ensures
