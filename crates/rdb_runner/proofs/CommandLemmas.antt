@@ -5,29 +5,14 @@ use Rattle.std.proofs.Common.{Bor, get_or}
 use Rattle.rdb_runner.specs.declared.command_line.Settings.{Settings}
 use Rattle.rdb_runner.specs.CommandLine.{Word, Command, replay, check, IsCommandLine, texts}
 use Rattle.rdb_runner.specs.Command.{IsNoCommandLine, usage_line, Task, replays, checks, unbuilt, task_of, not_built_line, TaskAsks, IsBuilt, SeesNothing, CommandOwes, CommandEnds, WordsEnd, IsCutShort, AsksFor, AsksToCheck, AsksForFiles, AsksForBuilt, AsksForOther, AsksInOrder}
-use Rattle.rdb_runner.specs.Promise.{names_of, JobEnds, IsDone, IsNotBuilt, JobOwes, ArePlain}
+use Rattle.rdb_runner.specs.Parts.{names_of, IsBadScript, IsBadSchedule, HasBadScript, HasBadSchedule}
+use Rattle.rdb_runner.specs.Promise.{JobEnds, IsDone, IsNotBuilt, JobOwes, ArePlain}
 use Rattle.rdb_runner.specs.Reading.{Sight, IsUnreadable, HasTooLong}
 use Rattle.rdb_runner.specs.SchemaFile.{IsChecked, IsBadSchema, HasBadSchema, CheckEnds, CheckOwes}
 use Rattle.rdb_runner.specs.Telling.{Ink, Tells, Writes, IsSilent, Shows}
 use Rattle.rdb_runner.proofs.CheckLemmas.{WholeCheck, by_whole_check, whole_check_failed_read, whole_check_too_long, whole_check_refused}
 use Rattle.rdb_runner.proofs.CommandLineMeaning.{one_line}
-use Rattle.rdb_runner.proofs.JobLemmas.{told_within, plain_built, done_is_read, not_built_is_read}
-
--- what is owed to a command, told whole
-abbrev WholeJob : List Word → Sight → Ink → ℕ → Type 0
-WholeJob names sight ink result = (status : ℕ) × (text : List ℕ) × JobOwes names sight status text × (result ≡ status) × Writes ink text
-
--- the four ways in which a job that is told whole ends
-by_whole : {P : Type 0} → (names : List Word) (sight : Sight) (ink : Ink) (result : ℕ) → WholeJob names sight ink result
-    → ((text : List ℕ) → result ≡ 0 → IsDone names sight text → Writes ink text → P)
-    → ((text : List ℕ) → result ≡ 3 → IsUnreadable names sight text → Writes ink text → P)
-    → ((text : List ℕ) → result ≡ 4 → IsBadSchema names sight text → Writes ink text → P)
-    → ((text : List ℕ) → result ≡ 10 → IsNotBuilt names sight text → Writes ink text → P)
-    → P
-by_whole names sight ink result (status, text, inl zero, r, w) done unreadable bad other = done text (r ∙ zero.0) zero.1 w
-by_whole names sight ink result (status, text, inr (inl three), r, w) done unreadable bad other = unreadable text (r ∙ three.0) three.1 w
-by_whole names sight ink result (status, text, inr (inr (inl four)), r, w) done unreadable bad other = bad text (r ∙ four.0) four.1 w
-by_whole names sight ink result (status, text, inr (inr (inr ten)), r, w) done unreadable bad other = other text (r ∙ ten.0) ten.1 w
+use Rattle.rdb_runner.proofs.JobLemmas.{WholeJob, plain_built, one_of, by_whole, whole_done, whole_unreadable, whole_bad_schema, whole_bad_script, whole_bad_schedule, whole_other, whole_not_two, whole_not_seven, whole_not_eight, whole_failed_read, whole_too_long, whole_refused, whole_no_script, whole_no_schedule}
 
 -- the ways in which words end
 pub by_words : {P : Type 0} → (words : List Word) (sight : Sight) (ink : Ink) (result : ℕ) → WordsEnd words sight ink result
@@ -101,86 +86,117 @@ asks_command words files (inl asks) bad = bad asks.0 asks.1
 asks_command words files (inr asks) bad = bad asks.1.0 asks.1.1
 
 module _ (words : List Word) (sight : Sight) (ink : Ink) (result : ℕ) (end : WordsEnd words sight ink result) where
-  pub words_status : Contains (0 ∷ 2 ∷ 3 ∷ 4 ∷ 7 ∷ 8 ∷ 10 ∷ []) result
-  words_status = by_words words sight ink result end (λ r bad sees w. (1, lit< tt, sym r)) (λ text r h sees w. (6, lit< tt, sym r))
-      (λ names asks whole. by_whole names sight ink result whole (λ text r h w. (0, lit< tt, sym r)) (λ text r h w. (2, lit< tt, sym r)) (λ text r h w. (3, lit< tt, sym r)) (λ text r h w. (6, lit< tt, sym r)))
+  pub words_status : Contains (0 ∷ 2 ∷ 3 ∷ 4 ∷ 5 ∷ 6 ∷ 7 ∷ 8 ∷ 10 ∷ []) result
+  words_status = by_words words sight ink result end
+      (λ r bad sees w. (1, lit< tt, sym r)) (λ text r h sees w. (8, lit< tt, sym r))
+      (λ names asks whole. by_whole names sight ink result whole (λ text r h w. (0, lit< tt, sym r)) (λ text r h w. (2, lit< tt, sym r)) (λ text r h w. (3, lit< tt, sym r)) (λ text r h w. (4, lit< tt, sym r)) (λ text r h w. (5, lit< tt, sym r)) (λ text r h w. (8, lit< tt, sym r)))
       (λ name asks whole. by_whole_check name sight ink result whole (λ text r h w. (0, lit< tt, sym r)) (λ text r h w. (2, lit< tt, sym r)) (λ text r h w. (3, lit< tt, sym r)))
-      (λ r h. (4, lit< tt, sym r)) (λ r h asks. (5, lit< tt, sym r))
+      (λ r h. (6, lit< tt, sym r)) (λ r h asks. (7, lit< tt, sym r))
 
   pub words_done : result ≡ 0 → ((names : List Word) × AsksFor words names × Shows ink (IsDone names sight)) ⊎ ((name : Word) × AsksToCheck words name × Shows ink (IsChecked name sight))
-  words_done e = by_words words sight ink result end (λ r bad sees w. absurd (omega arith)) (λ text r h sees w. absurd (omega arith))
-      (λ names asks whole. by_whole names sight ink result whole (λ text r h w. inl (names, asks, (text, h, w))) (λ text r h w. absurd (omega arith)) (λ text r h w. absurd (omega arith)) (λ text r h w. absurd (omega arith)))
+  words_done e = by_words words sight ink result end
+      (λ r bad sees w. absurd (omega arith)) (λ text r h sees w. absurd (omega arith))
+      (λ names asks whole. inl (names, asks, whole_done names sight ink result whole e))
       (λ name asks whole. by_whole_check name sight ink result whole (λ text r h w. inr (name, asks, (text, h, w))) (λ text r h w. absurd (omega arith)) (λ text r h w. absurd (omega arith)))
       (λ r h. absurd (omega arith)) (λ r h asks. absurd (omega arith))
 
   pub words_usage : result ≡ 2 → IsNoCommandLine words × Writes ink usage_line × SeesNothing sight
-  words_usage e = by_words words sight ink result end (λ r bad sees w. (bad, w, sees)) (λ text r h sees w. absurd (omega arith))
-      (λ names asks whole. by_whole names sight ink result whole (λ text r h w. absurd (omega arith)) (λ text r h w. absurd (omega arith)) (λ text r h w. absurd (omega arith)) (λ text r h w. absurd (omega arith)))
+  words_usage e = by_words words sight ink result end
+      (λ r bad sees w. (bad, w, sees)) (λ text r h sees w. absurd (omega arith))
+      (λ names asks whole. absurd (whole_not_two names sight ink result whole e))
       (λ name asks whole. by_whole_check name sight ink result whole (λ text r h w. absurd (omega arith)) (λ text r h w. absurd (omega arith)) (λ text r h w. absurd (omega arith)))
       (λ r h. absurd (omega arith)) (λ r h asks. absurd (omega arith))
 
   pub words_none : IsNoCommandLine words → Contains (2 ∷ 7 ∷ []) result
-  words_none bad = by_words words sight ink result end (λ r h sees w. (0, lit< tt, sym r)) (λ text r h sees w. absurd (bad h.0 h.1))
-      (λ names asks whole. absurd (bad asks.0 asks.1)) (λ name asks whole. absurd (bad asks.0 asks.1)) (λ r h. (1, lit< tt, sym r)) (λ r h asks. absurd (bad asks.0 asks.1))
+  words_none bad = by_words words sight ink result end
+      (λ r h sees w. (0, lit< tt, sym r)) (λ text r h sees w. absurd (bad h.0 h.1))
+      (λ names asks whole. absurd (bad asks.0 asks.1))
+      (λ name asks whole. absurd (bad asks.0 asks.1))
+      (λ r h. (1, lit< tt, sym r)) (λ r h asks. absurd (bad asks.0 asks.1))
 
   pub words_unreadable : result ≡ 3 → (names : List Word) × AsksForFiles words names × Shows ink (IsUnreadable names sight)
-  words_unreadable e = by_words words sight ink result end (λ r bad sees w. absurd (omega arith)) (λ text r h sees w. absurd (omega arith))
-      (λ names asks whole. by_whole names sight ink result whole (λ text r h w. absurd (omega arith)) (λ text r h w. (names, inl asks, (text, h, w))) (λ text r h w. absurd (omega arith)) (λ text r h w. absurd (omega arith)))
+  words_unreadable e = by_words words sight ink result end
+      (λ r bad sees w. absurd (omega arith)) (λ text r h sees w. absurd (omega arith))
+      (λ names asks whole. (names, inl asks, whole_unreadable names sight ink result whole e))
       (λ name asks whole. by_whole_check name sight ink result whole (λ text r h w. absurd (omega arith)) (λ text r h w. (name ∷ [], inr (name, asks, refl), (text, h, w))) (λ text r h w. absurd (omega arith)))
       (λ r h. absurd (omega arith)) (λ r h asks. absurd (omega arith))
 
   pub words_bad_schema : result ≡ 4 → (names : List Word) × AsksForFiles words names × Shows ink (IsBadSchema names sight)
-  words_bad_schema e = by_words words sight ink result end (λ r bad sees w. absurd (omega arith)) (λ text r h sees w. absurd (omega arith))
-      (λ names asks whole. by_whole names sight ink result whole (λ text r h w. absurd (omega arith)) (λ text r h w. absurd (omega arith)) (λ text r h w. (names, inl asks, (text, h, w))) (λ text r h w. absurd (omega arith)))
+  words_bad_schema e = by_words words sight ink result end
+      (λ r bad sees w. absurd (omega arith)) (λ text r h sees w. absurd (omega arith))
+      (λ names asks whole. (names, inl asks, whole_bad_schema names sight ink result whole e))
       (λ name asks whole. by_whole_check name sight ink result whole (λ text r h w. absurd (omega arith)) (λ text r h w. absurd (omega arith)) (λ text r h w. (name ∷ [], inr (name, asks, refl), (text, h, w))))
       (λ r h. absurd (omega arith)) (λ r h asks. absurd (omega arith))
 
+  pub words_bad_script : result ≡ 5 → (names : List Word) × AsksFor words names × Shows ink (IsBadScript names sight)
+  words_bad_script e = by_words words sight ink result end
+      (λ r bad sees w. absurd (omega arith)) (λ text r h sees w. absurd (omega arith))
+      (λ names asks whole. (names, asks, whole_bad_script names sight ink result whole e))
+      (λ name asks whole. by_whole_check name sight ink result whole (λ text r h w. absurd (omega arith)) (λ text r h w. absurd (omega arith)) (λ text r h w. absurd (omega arith)))
+      (λ r h. absurd (omega arith)) (λ r h asks. absurd (omega arith))
+
+  pub words_bad_schedule : result ≡ 6 → (names : List Word) × AsksFor words names × Shows ink (IsBadSchedule names sight)
+  words_bad_schedule e = by_words words sight ink result end
+      (λ r bad sees w. absurd (omega arith)) (λ text r h sees w. absurd (omega arith))
+      (λ names asks whole. (names, asks, whole_bad_schedule names sight ink result whole e))
+      (λ name asks whole. by_whole_check name sight ink result whole (λ text r h w. absurd (omega arith)) (λ text r h w. absurd (omega arith)) (λ text r h w. absurd (omega arith)))
+      (λ r h. absurd (omega arith)) (λ r h asks. absurd (omega arith))
+
   pub words_not_built : result ≡ 10 → Shows ink (AsksForOther words) ⊎ ((names : List Word) × AsksFor words names × Shows ink (IsNotBuilt names sight))
-  words_not_built e = by_words words sight ink result end (λ r bad sees w. absurd (omega arith)) (λ text r h sees w. inl (text, h, w))
-      (λ names asks whole. by_whole names sight ink result whole (λ text r h w. absurd (omega arith)) (λ text r h w. absurd (omega arith)) (λ text r h w. absurd (omega arith)) (λ text r h w. inr (names, asks, (text, h, w))))
+  words_not_built e = by_words words sight ink result end
+      (λ r bad sees w. absurd (omega arith)) (λ text r h sees w. inl (text, h, w))
+      (λ names asks whole. inr (names, asks, whole_other names sight ink result whole e))
       (λ name asks whole. by_whole_check name sight ink result whole (λ text r h w. absurd (omega arith)) (λ text r h w. absurd (omega arith)) (λ text r h w. absurd (omega arith)))
       (λ r h. absurd (omega arith)) (λ r h asks. absurd (omega arith))
 
   pub words_cut : result ≡ 7 → IsCutShort words sight ink
-  words_cut e = by_words words sight ink result end (λ r bad sees w. absurd (omega arith)) (λ text r h sees w. absurd (omega arith))
-      (λ names asks whole. by_whole names sight ink result whole (λ text r h w. absurd (omega arith)) (λ text r h w. absurd (omega arith)) (λ text r h w. absurd (omega arith)) (λ text r h w. absurd (omega arith)))
+  words_cut e = by_words words sight ink result end
+      (λ r bad sees w. absurd (omega arith)) (λ text r h sees w. absurd (omega arith))
+      (λ names asks whole. absurd (whole_not_seven names sight ink result whole e))
       (λ name asks whole. by_whole_check name sight ink result whole (λ text r h w. absurd (omega arith)) (λ text r h w. absurd (omega arith)) (λ text r h w. absurd (omega arith)))
       (λ r h. h) (λ r h asks. absurd (omega arith))
 
   pub words_memory : result ≡ 8 → IsSilent ink
-  words_memory e = by_words words sight ink result end (λ r bad sees w. absurd (omega arith)) (λ text r h sees w. absurd (omega arith))
-      (λ names asks whole. by_whole names sight ink result whole (λ text r h w. absurd (omega arith)) (λ text r h w. absurd (omega arith)) (λ text r h w. absurd (omega arith)) (λ text r h w. absurd (omega arith)))
+  words_memory e = by_words words sight ink result end
+      (λ r bad sees w. absurd (omega arith)) (λ text r h sees w. absurd (omega arith))
+      (λ names asks whole. absurd (whole_not_eight names sight ink result whole e))
       (λ name asks whole. by_whole_check name sight ink result whole (λ text r h w. absurd (omega arith)) (λ text r h w. absurd (omega arith)) (λ text r h w. absurd (omega arith)))
       (λ r h. absurd (omega arith)) (λ r h asks. h)
 
   pub words_failed_read : sight.faults < sight.faults_then → Contains (3 ∷ 7 ∷ 8 ∷ []) result
-  words_failed_read rose = by_words words sight ink result end (λ r bad sees w. let same = sees.1 in absurd (omega arith)) (λ text r h sees w. let same = sees.1 in absurd (omega arith))
-      (λ names asks whole. by_whole names sight ink result whole (λ text r h w. let same = h.3.2 in absurd (omega arith)) (λ text r h w. (0, lit< tt, sym r)) (λ text r h w. let same = h.3.2 in absurd (omega arith)) (λ text r h w. let same = h.5.2 in absurd (omega arith)))
+  words_failed_read rose = by_words words sight ink result end
+      (λ r bad sees w. let same = sees.1 in absurd (omega arith)) (λ text r h sees w. let same = sees.1 in absurd (omega arith))
+      (λ names asks whole. (0, lit< tt, sym (whole_failed_read names sight ink result whole rose)))
       (λ name asks whole. (0, lit< tt, sym (whole_check_failed_read name sight ink result whole rose)))
       (λ r h. (1, lit< tt, sym r)) (λ r h asks. (2, lit< tt, sym r))
 
-  pub words_too_long : (names : List Word) → AsksForFiles words names → HasTooLong names sight → Contains (3 ∷ 7 ∷ 8 ∷ []) result
-  words_too_long names asks (place, name, there, at, is, long) = by_words words sight ink result end
-      (λ r bad sees w. absurd (asks_command words names asks bad)) (λ text r h sees w. absurd (no_files words h.0 names h.1 h.2 asks))
-      (λ others other whole. let same = files_of_job words others names other asks in by_whole others sight ink result whole
-      (λ text r h w. let short = told_within sight.told others _ place name there h.3.0 (subst (λ (ns : List Word). slice_get ns place ≡ Some name) same at) is in absurd (omega arith))
-      (λ text r h w. (0, lit< tt, sym r))
-      (λ text r h w. let short = told_within sight.told others _ place name there h.3.0 (subst (λ (ns : List Word). slice_get ns place ≡ Some name) same at) is in absurd (omega arith))
-      (λ text r h w. let short = told_within sight.told others _ place name there h.5.0 (subst (λ (ns : List Word). slice_get ns place ≡ Some name) same at) is in absurd (omega arith)))
-      (λ one other whole. (0, lit< tt, sym (whole_check_too_long one sight ink result whole (subst (λ (ns : List Word). HasTooLong ns sight) (files_of_check words one names other asks) (place, name, there, at, is, long)))))
-      (λ r h. (1, lit< tt, sym r)) (λ r h others. (2, lit< tt, sym r))
+  pub words_too_long : (files : List Word) → AsksForFiles words files → HasTooLong files sight → Contains (3 ∷ 7 ∷ 8 ∷ []) result
+  words_too_long files asks bad = by_words words sight ink result end
+      (λ r no sees w. absurd (asks_command words files asks no)) (λ text r h sees w. absurd (no_files words h.0 files h.1 h.2 asks))
+      (λ names own whole. (0, lit< tt, sym (whole_too_long names sight ink result whole (subst (λ (ns : List Word). HasTooLong ns sight) (files_of_job words names files own asks) bad))))
+      (λ name own whole. (0, lit< tt, sym (whole_check_too_long name sight ink result whole (subst (λ (ns : List Word). HasTooLong ns sight) (files_of_check words name files own asks) bad))))
+      (λ r h. (1, lit< tt, sym r)) (λ r h own. (2, lit< tt, sym r))
 
-  pub words_refused : (names : List Word) → AsksForFiles words names → HasBadSchema names sight → Contains (3 ∷ 4 ∷ 7 ∷ 8 ∷ []) result
-  words_refused names asks bad = by_words words sight ink result end
-      (λ r no sees w. absurd (asks_command words names asks no)) (λ text r h sees w. absurd (no_files words h.0 names h.1 h.2 asks))
-      (λ others other whole. let same = subst (λ (ns : List Word). HasBadSchema ns sight) (files_of_job words others names other asks) bad in by_whole others sight ink result whole
-      (λ text r h w. absurd (done_is_read others sight text h same)) (λ text r h w. (0, lit< tt, sym r)) (λ text r h w. (1, lit< tt, sym r)) (λ text r h w. absurd (not_built_is_read others sight text h same)))
-      (λ one other whole. three_or_four (whole_check_refused one sight ink result whole (subst (λ (ns : List Word). HasBadSchema ns sight) (files_of_check words one names other asks) bad)))
-      (λ r h. (2, lit< tt, sym r)) (λ r h others. (3, lit< tt, sym r))
-    where
-      three_or_four : (result ≡ 3) ⊎ (result ≡ 4) → Contains (3 ∷ 4 ∷ 7 ∷ 8 ∷ []) result
-      three_or_four (inl r) = (0, lit< tt, sym r)
-      three_or_four (inr r) = (1, lit< tt, sym r)
+  pub words_refused : (files : List Word) → AsksForFiles words files → HasBadSchema files sight → Contains (3 ∷ 4 ∷ 7 ∷ 8 ∷ []) result
+  words_refused files asks bad = by_words words sight ink result end
+      (λ r no sees w. absurd (asks_command words files asks no)) (λ text r h sees w. absurd (no_files words h.0 files h.1 h.2 asks))
+      (λ names own whole. one_of 3 4 result (whole_refused names sight ink result whole (subst (λ (ns : List Word). HasBadSchema ns sight) (files_of_job words names files own asks) bad)))
+      (λ name own whole. one_of 3 4 result (whole_check_refused name sight ink result whole (subst (λ (ns : List Word). HasBadSchema ns sight) (files_of_check words name files own asks) bad)))
+      (λ r h. (2, lit< tt, sym r)) (λ r h own. (3, lit< tt, sym r))
+
+  pub words_no_script : (files : List Word) → AsksFor words files → HasBadScript files sight → Contains (3 ∷ 5 ∷ 7 ∷ 8 ∷ []) result
+  words_no_script files asks bad = by_words words sight ink result end
+      (λ r no sees w. absurd (no asks.0 asks.1)) (λ text r h sees w. absurd (not_both words h.0 files h.1 h.2 asks))
+      (λ names own whole. one_of 3 5 result (whole_no_script names sight ink result whole (subst (λ (ns : List Word). HasBadScript ns sight) (one_job words files names asks own) bad)))
+      (λ name own whole. absurd (job_or_check words files name asks own))
+      (λ r h. (2, lit< tt, sym r)) (λ r h own. (3, lit< tt, sym r))
+
+  pub words_no_schedule : (files : List Word) → AsksFor words files → HasBadSchedule files sight → Contains (3 ∷ 6 ∷ 7 ∷ 8 ∷ []) result
+  words_no_schedule files asks bad = by_words words sight ink result end
+      (λ r no sees w. absurd (no asks.0 asks.1)) (λ text r h sees w. absurd (not_both words h.0 files h.1 h.2 asks))
+      (λ names own whole. one_of 3 6 result (whole_no_schedule names sight ink result whole (subst (λ (ns : List Word). HasBadSchedule ns sight) (one_job words files names asks own) bad)))
+      (λ name own whole. absurd (job_or_check words files name asks own))
+      (λ r h. (2, lit< tt, sym r)) (λ r h own. (3, lit< tt, sym r))
 
   pub words_plain : (names : List Word) → AsksFor words names → ArePlain names sight → result ≡ 10 → ⊥
   words_plain names asks plain e = by_not_built (words_not_built e)

@@ -1,14 +1,15 @@
 pub mod BadSchema
 pub mod CheckLemmas
 pub mod CommandLemmas
-pub mod DecimalLemmas
 pub mod JobLemmas
-pub mod PlainClientLemmas
+pub mod JobParts
 pub mod PlainFits
 pub mod PlainRunLemmas
 pub mod PlainShape
 pub mod ReadingLemmas
+pub mod ScriptLines
 pub mod TellingLemmas
+pub mod WorkLemmas
 pub mod CommandLineMeaning
 pub mod CommandLineParts
 pub mod CommandLineReading

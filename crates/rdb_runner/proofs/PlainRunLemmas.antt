@@ -1,5 +1,5 @@
 -- What one more operation adds to a run on the plain database, and that the journal of such a run is legal.
-use Rattle.std.proofs.Common.{◌≡◌, ℕ, length, take, get_or, ◌+◌, ◌<◌, ◌≤◌, Bool, true, false, cond, not, ◌&&◌, ◌||◌, eqb, List, [], ◌∷◌, ◌++◌, map, Option, Some, None, refl, sym, ap, ◌∙◌, subst, arith}
+use Rattle.std.proofs.Common.{◌≡◌, ℕ, zero, suc, length, take, get_or, ◌+◌, ◌<◌, ◌≤◌, Bool, true, false, cond, not, ◌&&◌, ◌||◌, eqb, List, [], ◌∷◌, ◌++◌, map, Option, Some, None, refl, sym, ap, ◌∙◌, subst, arith}
 use Rattle.std.specs.Option.{option_map, option_map_or}
 use Rattle.std.specs.Cmp.{IsTotalOrder}
 use Rattle.std.specs.Prelude.{IsSome, nat_eq}
@@ -10,7 +10,8 @@ use Rattle.std.proofs.lemmas.Cmp.{tied_itself}
 use Rattle.std.proofs.lemmas.List.{take_more, length-take}
 use Rattle.std.specs.List.{AllByRecursion}
 use Rattle.rdb_journal.specs.Lines.{StepNamesExist}
-use Rattle.rdb_runner.proofs.PlainFits.{length_after, step_named}
+use Rattle.rdb_runner.proofs.PlainFits.{by_op, length_after, step_named}
+use Rattle.rdb_runner.proofs.PlainShape.{schema_of, plain_has_one, is_written}
 use Rattle.std.specs.Ordering.{is_eq}
 use Rattle.rdb_base.specs.Order.{row_order}
 use Rattle.rdb_base.specs.declared.operation.Op.{Op}
@@ -23,31 +24,54 @@ use Rattle.rdb_model.specs.Story.{run, same_reply}
 use Rattle.rdb_model.specs.Journal.{IsLegal, wrong_reply, was_made}
 use Rattle.rdb_model.specs.declared.legality.Legality.TheVariants as legality
 use Rattle.rdb_model.specs.declared.legality.Why.TheVariants as why
-use Rattle.rdb_runner.specs.declared.plain_client.PlainStep.{PlainStep}
-use Rattle.rdb_runner.specs.declared.plain_client.PlainStep.TheVariants.{New, Get}
-use Rattle.rdb_runner.specs.PlainClient.{operation_of, made_by, numbered}
-use Rattle.rdb_runner.specs.PlainReport.{journal_of, AreAnswered}
-use Rattle.rdb_runner.specs.PlainSchema.{schema_of, IsPlain}
+use Rattle.rdb_base.specs.declared.operation.Op.TheVariants as op
+use Rattle.rdb_schema.specs.declared.schema.Class.{Class}
+use Rattle.rdb_script.specs.declared.unit.ScriptLine.{ScriptLine}
+use Rattle.rdb_model.specs.Database.{Row}
+use Rattle.rdb_runner.specs.PlainReport.{operation_of, makes, numbered, asked_by, journal_of, AreAnswered}
+use Rattle.rdb_runner.specs.PlainSchema.{is_plain_schema}
+use Rattle.rdb_runner.specs.Runs.{CanDo, CanRun}
 
--- the operations with one step more
-pub numbered-snoc : (next : ℕ) (steps : List PlainStep) (one : PlainStep) → numbered next (steps ++ one ∷ []) ≡ numbered next steps ++ operation_of (next + made_by steps) one ∷ []
-numbered-snoc next [] (New number) = ap (λ (k : ℕ). operation_of k (New number) ∷ []) (omega arith)
-numbered-snoc next [] (Get id) = refl
-numbered-snoc next (New number ∷ steps) one =
-    ap (λ (os : List Op). operation_of next (New number) ∷ os) (numbered-snoc (next + 1) steps one ∙ ap (λ (k : ℕ). numbered (next + 1) steps ++ operation_of k one ∷ []) (omega arith))
-numbered-snoc next (Get id ∷ steps) one = ap (λ (os : List Op). operation_of next (Get id) ∷ os) (numbered-snoc next steps one)
+-- how many rows operations make
+abbrev pub made_by : List Op → ℕ
+made_by [] = 0
+made_by (asked ∷ others) = makes asked + made_by others
 
--- the rows made with one step more
-pub made_by-snoc : (steps : List PlainStep) (one : PlainStep) → made_by (steps ++ one ∷ []) ≡ made_by steps + made_by (one ∷ [])
+-- the operations with one more
+numbered-snoc : (next : ℕ) (asked : List Op) (one : Op) → numbered next (asked ++ one ∷ []) ≡ numbered next asked ++ operation_of (next + made_by asked) one ∷ []
+numbered-snoc next [] one = let same : next ≡ next + made_by [] = omega arith in ap (λ (k : ℕ). operation_of k one ∷ []) same
+numbered-snoc next (a ∷ asked) one =
+    let same : next + makes a + made_by asked ≡ next + made_by (a ∷ asked) = omega arith in
+    ap (λ (os : List Op). operation_of next a ∷ os) (numbered-snoc (next + makes a) asked one ∙ ap (λ (k : ℕ). numbered (next + makes a) asked ++ operation_of k one ∷ []) same)
+
+-- the rows made with one more
+made_by-snoc : (asked : List Op) (one : Op) → made_by (asked ++ one ∷ []) ≡ made_by asked + makes one
 made_by-snoc [] one = omega arith
-made_by-snoc (New number ∷ steps) one = omega (arith, made_by-snoc steps one)
-made_by-snoc (Get id ∷ steps) one = made_by-snoc steps one
+made_by-snoc (a ∷ asked) one = omega (arith, made_by-snoc asked one)
 
--- no more rows are made than there are steps
-pub made_by-le : (steps : List PlainStep) → made_by steps ≤ length steps
+one_at_most : (asked : Op) → makes asked ≤ 1
+one_at_most (op.New class row id) = omega arith
+one_at_most (op.Get class id) = omega arith
+one_at_most (op.Put class id row) = omega arith
+one_at_most (op.Del class id) = omega arith
+one_at_most (op.Find class index key) = omega arith
+one_at_most (op.Seek class index from up) = omega arith
+one_at_most (op.Area class index rect inside) = omega arith
+one_at_most (op.Prefix class index text way) = omega arith
+one_at_most (op.Count class) = omega arith
+
+-- no more rows are made than there are lines
+made_by-le : (lines : List ScriptLine) → made_by (asked_by lines) ≤ length lines
 made_by-le [] = omega arith
-made_by-le (New number ∷ steps) = omega (arith, made_by-le steps)
-made_by-le (Get id ∷ steps) = omega (arith, made_by-le steps)
+made_by-le (l ∷ lines) = omega (arith, made_by-le lines, one_at_most l.op)
+
+asked_more : (lines : List ScriptLine) (one : ScriptLine) → asked_by (lines ++ one ∷ []) ≡ asked_by lines ++ one.op ∷ []
+asked_more [] one = refl
+asked_more (l ∷ lines) one = ap (λ (os : List Op). l.op ∷ os) (asked_more lines one)
+
+all_asked : (t : Schema) (lines : List ScriptLine) → AllByRecursion (CanRun t) lines → AllByRecursion (CanDo t) (asked_by lines)
+all_asked t [] all = tt
+all_asked t (l ∷ lines) all = (all.0, all_asked t lines all.1)
 
 taken : (b : Bool) (r : Option Database) (mid : Database) → cond b r None ≡ Some mid → (b ≡ true) × (r ≡ Some mid)
 taken true r mid e = (refl, e)
@@ -111,58 +135,82 @@ new_made (m ∷ made) next id e h =
 same_number : (a b : ℕ) → eqb a b ≡ true → b ≡ a
 same_number a b h = grind (arith, nat_tests)
 
--- each operation of the steps is answered by the plain database, and makes a new object
-pub none_wrong : (d c f : List ℕ) (est : Option ℕ) (steps : List PlainStep) (next first : ℕ) (db mid : Database) (done : List (Op × Reply)) (made : List (ℕ × ℕ)) → map (λ (x : Op × Reply). x.0) done ≡ numbered next steps → run (schema_of d c f est) db done ≡ Some mid → AllBelow made next → wrong_reply (schema_of d c f est) db made first done ≡ None
-none_wrong d c f est [] next first db mid [] made e r h = refl
-none_wrong d c f est [] next first db mid (x ∷ done) made e r h = cc
-none_wrong d c f est (New number ∷ steps) next first db mid [] made e r h = cc
-none_wrong d c f est (Get id ∷ steps) next first db mid [] made e r h = cc
-none_wrong d c f est (New number ∷ steps) next first db mid ((o, told) ∷ done) made e r h =
-    let is : o ≡ operation_of next (New number) = cc in
-    let others : map (λ (x : Op × Reply). x.0) done ≡ numbered (next + 1) steps = cc in
-    subst (λ (p : Op). wrong_reply (schema_of d c f est) db made first ((p, told) ∷ done) ≡ None) (sym is)
-    (by_reply told (subst (λ (p : Op). run (schema_of d c f est) db ((p, told) ∷ done) ≡ Some mid) is r)
-    (λ m at ran. none_wrong d c f est steps (next + 1) (first + 1) (answer (schema_of d c f est) db (operation_of next (New number))).1 mid done (made ++ (0, m) ∷ []) others ran (below_more made next m at h)))
+-- a row that is made is answered by the plain database, and is a new object
+new_step : (s : Schema) (c : Class) (row : Row) (next first : ℕ) (db mid : Database) (p : Op) (told : Reply) (done : List (Op × Reply)) (made : List (ℕ × ℕ)) → p ≡ op.New 0 row next → run (schema_of s c) db ((p, told) ∷ done) ≡ Some mid → AllBelow made next
+    → ((m : ℕ) → m ≡ next → run (schema_of s c) (answer (schema_of s c) db (op.New 0 row next)).1 done ≡ Some mid → wrong_reply (schema_of s c) (answer (schema_of s c) db (op.New 0 row next)).1 (made ++ (0, m) ∷ []) (first + 1) done ≡ None)
+    → wrong_reply (schema_of s c) db made first ((p, told) ∷ done) ≡ None
+new_step s c row next first db mid p told done made is r h rest =
+    subst (λ (q : Op). wrong_reply (schema_of s c) db made first ((q, told) ∷ done) ≡ None) (sym is) (by_reply told (subst (λ (q : Op). run (schema_of s c) db ((q, told) ∷ done) ≡ Some mid) is r))
   where
-    by_reply : (told : Reply) → run (schema_of d c f est) db ((operation_of next (New number), told) ∷ done) ≡ Some mid → ((m : ℕ) → m ≡ next → run (schema_of d c f est) (answer (schema_of d c f est) db (operation_of next (New number))).1 done ≡ Some mid → wrong_reply (schema_of d c f est) (answer (schema_of d c f est) db (operation_of next (New number))).1 (made ++ (0, m) ∷ []) (first + 1) done ≡ None) → wrong_reply (schema_of d c f est) db made first ((operation_of next (New number), told) ∷ done) ≡ None
-    by_reply (reply.Made m) r rest =
-        let after = (answer (schema_of d c f est) db (operation_of next (New number))).1 in
-        let t = taken (eqb next m) (run (schema_of d c f est) after done) mid r in
+    by_reply : (told : Reply) → run (schema_of s c) db ((op.New 0 row next, told) ∷ done) ≡ Some mid → wrong_reply (schema_of s c) db made first ((op.New 0 row next, told) ∷ done) ≡ None
+    by_reply (reply.Made m) r =
+        let after = (answer (schema_of s c) db (op.New 0 row next)).1 in
+        let t = taken (eqb next m) (run (schema_of s c) after done) mid r in
         let at = same_number next m t.0 in
-        (λ i. cond (t.0 i && not (new_made made next m at h i)) (wrong_reply (schema_of d c f est) after (made ++ (0, m) ∷ []) (first + 1) done) (Some first))
+        (λ i. cond (t.0 i && not (new_made made next m at h i)) (wrong_reply (schema_of s c) after (made ++ (0, m) ∷ []) (first + 1) done) (Some first))
         ∙ rest m at t.1
-    by_reply (reply.Row row) r rest = let no : None ≡ Some mid = r in cc
-    by_reply reply.Done r rest = let no : None ≡ Some mid = r in cc
-    by_reply reply.NotFound r rest = let no : None ≡ Some mid = r in cc
-    by_reply (reply.Duplicate i id) r rest = let no : None ≡ Some mid = r in cc
-    by_reply (reply.Ids ids) r rest = let no : None ≡ Some mid = r in cc
-    by_reply (reply.At key id) r rest = let no : None ≡ Some mid = r in cc
-    by_reply reply.End r rest = let no : None ≡ Some mid = r in cc
-    by_reply (reply.Count n) r rest = let no : None ≡ Some mid = r in cc
-none_wrong d c f est (Get id ∷ steps) next first db mid ((o, told) ∷ done) made e r h =
-    let is : o ≡ operation_of next (Get id) = cc in
-    let others : map (λ (x : Op × Reply). x.0) done ≡ numbered next steps = cc in
-    let ran : run (schema_of d c f est) db ((operation_of next (Get id), told) ∷ done) ≡ Some mid = subst (λ (p : Op). run (schema_of d c f est) db ((p, told) ∷ done) ≡ Some mid) is r in
-    let found = (answer (schema_of d c f est) db (operation_of next (Get id))).0 in
-    let t = taken (same_reply found told) (run (schema_of d c f est) db done) mid ran in
-    subst (λ (p : Op). wrong_reply (schema_of d c f est) db made first ((p, told) ∷ done) ≡ None) (sym is)
-    (ap (λ (b : Bool). cond (b && true) (wrong_reply (schema_of d c f est) db (made ++ []) (first + 1) done) (Some first)) t.0
-    ∙ none_wrong d c f est steps next (first + 1) db mid done (made ++ []) others t.1 (below_same made next h))
+    by_reply (reply.Row found) r = let no : None ≡ Some mid = r in cc
+    by_reply reply.Done r = let no : None ≡ Some mid = r in cc
+    by_reply reply.NotFound r = let no : None ≡ Some mid = r in cc
+    by_reply (reply.Duplicate i id) r = let no : None ≡ Some mid = r in cc
+    by_reply (reply.Ids ids) r = let no : None ≡ Some mid = r in cc
+    by_reply (reply.At key id) r = let no : None ≡ Some mid = r in cc
+    by_reply reply.End r = let no : None ≡ Some mid = r in cc
+    by_reply (reply.Count n) r = let no : None ≡ Some mid = r in cc
+
+-- a row that is read is answered by the plain database
+get_step : (s : Schema) (c : Class) (id first : ℕ) (db mid : Database) (p : Op) (told : Reply) (done : List (Op × Reply)) (made : List (ℕ × ℕ)) → p ≡ op.Get 0 id → run (schema_of s c) db ((p, told) ∷ done) ≡ Some mid
+    → (run (schema_of s c) db done ≡ Some mid → wrong_reply (schema_of s c) db (made ++ []) (first + 1) done ≡ None)
+    → wrong_reply (schema_of s c) db made first ((p, told) ∷ done) ≡ None
+get_step s c id first db mid p told done made is r rest =
+    let ran : run (schema_of s c) db ((op.Get 0 id, told) ∷ done) ≡ Some mid = subst (λ (q : Op). run (schema_of s c) db ((q, told) ∷ done) ≡ Some mid) is r in
+    let found = (answer (schema_of s c) db (op.Get 0 id)).0 in
+    let t = taken (same_reply found told) (run (schema_of s c) db done) mid ran in
+    subst (λ (q : Op). wrong_reply (schema_of s c) db made first ((q, told) ∷ done) ≡ None) (sym is)
+    (ap (λ (b : Bool). cond (b && true) (wrong_reply (schema_of s c) db (made ++ []) (first + 1) done) (Some first)) t.0 ∙ rest t.1)
+
+-- each operation is answered by the plain database, and makes a new object
+none_wrong : (t s : Schema) (c : Class) (asked : List Op) (next first : ℕ) (db mid : Database) (done : List (Op × Reply)) (made : List (ℕ × ℕ)) → AllByRecursion (CanDo t) asked → map (λ (x : Op × Reply). x.0) done ≡ numbered next asked → run (schema_of s c) db done ≡ Some mid → AllBelow made next → wrong_reply (schema_of s c) db made first done ≡ None
+none_wrong t s c [] next first db mid [] made all e r h = refl
+none_wrong t s c [] next first db mid (x ∷ done) made all e r h = cc
+none_wrong t s c (a ∷ asked) next first db mid [] made all e r h = cc
+none_wrong t s c (a ∷ asked) next first db mid ((p, told) ∷ done) made all e r h =
+    by_op (λ (o : Op). p ∷ map (λ (x : Op × Reply). x.0) done ≡ operation_of next o ∷ numbered (next + makes o) asked → wrong_reply (schema_of s c) db made first ((p, told) ∷ done) ≡ None) t a all.0
+    (λ row id fit same.
+    let both : p ∷ map (λ (x : Op × Reply). x.0) done ≡ op.New 0 row next ∷ numbered (next + 1) asked = same in
+    let is : p ≡ op.New 0 row next = cc in
+    let others : map (λ (x : Op × Reply). x.0) done ≡ numbered (next + 1) asked = cc in
+    new_step s c row next first db mid p told done made is r h
+    (λ m at ran. none_wrong t s c asked (next + 1) (first + 1) (answer (schema_of s c) db (op.New 0 row next)).1 mid done (made ++ (0, m) ∷ []) all.1 others ran (below_more made next m at h)))
+    (λ id same.
+    let still : next + 0 ≡ next = omega arith in
+    let both : p ∷ map (λ (x : Op × Reply). x.0) done ≡ op.Get 0 id ∷ numbered next asked = same ∙ ap (λ (k : ℕ). op.Get 0 id ∷ numbered k asked) still in
+    let is : p ≡ op.Get 0 id = cc in
+    let others : map (λ (x : Op × Reply). x.0) done ≡ numbered next asked = cc in
+    get_step s c id first db mid p told done made is r
+    (λ ran. none_wrong t s c asked next (first + 1) db mid done (made ++ []) all.1 others ran (below_same made next h)))
+    e
 
 some_of : (o : Option Database) → IsSome o → (mid : Database) × (o ≡ Some mid)
 some_of None h = let no : false ≡ true = h in absurd (false≢true no)
 some_of (Some mid) h = (mid, refl)
 
--- the journal of such a client is legal
-pub journal_is_legal : (d c f : List ℕ) (est : Option ℕ) (steps : List PlainStep) (done : List (Op × Reply)) → AreAnswered (schema_of d c f est) steps done → IsLegal (schema_of d c f est) (journal_of done)
-journal_is_legal d c f est steps done a =
-    let ran = some_of (run (schema_of d c f est) (empty 1) done) a.runs in
-    ap (λ (w : Option ℕ). option_map_or (legality.Illegal 1) (option_map why.Reply w) legality.Legal) (none_wrong d c f est steps 1 1 (empty 1) ran.0 done [] a.operations ran.1 tt)
+written_is_legal : (t s : Schema) (c : Class) (lines : List ScriptLine) (done : List (Op × Reply)) → AllByRecursion (CanRun t) lines → AreAnswered (schema_of s c) lines done → IsLegal (schema_of s c) (journal_of done)
+written_is_legal t s c lines done all a =
+    let ran = some_of (run (schema_of s c) (empty 1) done) a.runs in
+    ap (λ (w : Option ℕ). option_map_or (legality.Illegal 1) (option_map why.Reply w) legality.Legal) (none_wrong t s c (asked_by lines) 1 1 (empty 1) ran.0 done [] (all_asked t lines all) a.operations ran.1 tt)
 
--- the steps before a place are answered
-pub record Answered (schema : Schema) (steps : List PlainStep) (index : ℕ) (done : List (Op × Reply)) (db : Database) (next : ℕ) : Type 0 where
-  pub operations : map (λ (d : Op × Reply). d.0) done ≡ numbered 1 (take index steps)
-  pub next_id : next ≡ 1 + made_by (take index steps)
+-- the journal of such a client is legal
+pub journal_is_legal : (schema : Schema) → is_plain_schema schema ≡ true → (lines : List ScriptLine) (done : List (Op × Reply)) → AllByRecursion (CanRun schema) lines → AreAnswered schema lines done → IsLegal schema (journal_of done)
+journal_is_legal schema plain lines done all a =
+    let one = plain_has_one schema plain in
+    let is = is_written schema one in
+    subst (λ (s : Schema). IsLegal s (journal_of done)) (sym is) (written_is_legal schema schema one.class lines done all (subst (λ (s : Schema). AreAnswered s lines done) is a))
+
+-- the lines before a place are answered
+pub record Answered (schema : Schema) (lines : List ScriptLine) (index : ℕ) (done : List (Op × Reply)) (db : Database) (next : ℕ) : Type 0 where
+  pub operations : map (λ (d : Op × Reply). d.0) done ≡ numbered 1 (asked_by (take index lines))
+  pub next_id : next ≡ 1 + made_by (asked_by (take index lines))
   pub runs : run schema (empty 1) done ≡ Some db
   pub classes : length db ≡ 1
   pub named : AllByRecursion (StepNamesExist schema) done
@@ -175,21 +223,29 @@ map_more_of : (done : List (Op × Reply)) (d : Op × Reply) → map (λ (x : Op 
 map_more_of [] d = refl
 map_more_of (x ∷ done) d = ap (λ (os : List Op). x.0 ∷ os) (map_more_of done d)
 
--- one step more
-pub answered_more : IsTotalOrder row_order → (schema : Schema) (steps : List PlainStep) (index : ℕ) (done : List (Op × Reply)) (db : Database) (next : ℕ) (one : PlainStep) → IsPlain schema → index < length steps → one ≡ get_or steps index one → Answered schema steps index done db next
-    → Answered schema steps (index + 1) (done ++ (operation_of next one, (answer schema db (operation_of next one)).0) ∷ []) (answer schema db (operation_of next one)).1 (next + made_by (one ∷ []))
-answered_more total schema steps index done db next one plain within at a =
-    let front = take index steps in
-    let more : take (index + 1) steps ≡ front ++ one ∷ [] = take_more steps index one within ∙ ap (λ (s : PlainStep). front ++ s ∷ []) (sym at) in
+-- one line more
+pub answered_more : IsTotalOrder row_order → (schema : Schema) (lines : List ScriptLine) (index : ℕ) (done : List (Op × Reply)) (db : Database) (next : ℕ) (one : ScriptLine) → is_plain_schema schema ≡ true → index < length lines → one ≡ get_or lines index one → CanRun schema one → Answered schema lines index done db next
+    → Answered schema lines (index + 1) (done ++ (operation_of next one.op, (answer schema db (operation_of next one.op)).0) ∷ []) (answer schema db (operation_of next one.op)).1 (next + makes one.op)
+answered_more total schema lines index done db next one plain within at can a =
+    let front = asked_by (take index lines) in
+    let o = operation_of next one.op in
+    let more : asked_by (take (index + 1) lines) ≡ front ++ one.op ∷ [] =
+    ap asked_by (take_more lines index one within ∙ ap (λ (l : ScriptLine). take index lines ++ l ∷ []) (sym at)) ∙ asked_more (take index lines) one in
     record {
-      operations = map_more_of done (operation_of next one, (answer schema db (operation_of next one)).0) ∙ ap (λ (os : List Op). os ++ operation_of next one ∷ []) a.operations
-          ∙ ap (λ (n : ℕ). numbered 1 front ++ operation_of n one ∷ []) a.next_id ∙ sym (numbered-snoc 1 front one) ∙ ap (numbered 1) (sym more);
-      next_id = ap (λ (n : ℕ). n + made_by (one ∷ [])) a.next_id ∙ omega (arith, made_by-snoc front one) ∙ ap (λ (xs : List PlainStep). 1 + made_by xs) (sym more);
-      runs = run-snoc schema (empty 1) done (operation_of next one, (answer schema db (operation_of next one)).0) db a.runs (same_reply-refl total (answer schema db (operation_of next one)).0);
-      classes = length_after schema plain db next one ∙ a.classes;
-      named = all_more (StepNamesExist schema) done _ a.named (step_named schema plain db next one);
+      operations = map_more_of done (o, (answer schema db o).0) ∙ ap (λ (os : List Op). os ++ o ∷ []) a.operations
+          ∙ ap (λ (n : ℕ). numbered 1 front ++ operation_of n one.op ∷ []) a.next_id ∙ sym (numbered-snoc 1 front one.op) ∙ ap (numbered 1) (sym more);
+      next_id = ap (λ (n : ℕ). n + makes one.op) a.next_id ∙ omega (arith, made_by-snoc front one.op) ∙ ap (λ (os : List Op). 1 + made_by os) (sym more);
+      runs = run-snoc schema (empty 1) done (o, (answer schema db o).0) db a.runs (same_reply-refl total (answer schema db o).0);
+      classes = length_after schema plain db next one.op can ∙ a.classes;
+      named = all_more (StepNamesExist schema) done _ a.named (step_named schema plain db next one.op can);
     }
 
--- few rows are made by few steps
-pub few_made : (steps : List PlainStep) (index : ℕ) → made_by (take index steps) ≤ length steps
-few_made steps index = omega (arith, made_by-le (take index steps), length-take index steps)
+-- few rows are made by few lines
+pub few_made : (lines : List ScriptLine) (index : ℕ) → made_by (asked_by (take index lines)) ≤ length lines
+few_made lines index = omega (arith, made_by-le (take index lines), length-take index lines)
+
+-- what each line is, the line at a place is
+pub each_at : (t : Schema) (lines : List ScriptLine) (index : ℕ) (d : ScriptLine) → AllByRecursion (CanRun t) lines → index < length lines → CanRun t (get_or lines index d)
+each_at t [] index d all within = absurd (omega arith)
+each_at t (l ∷ lines) zero d all within = all.0
+each_at t (l ∷ lines) (suc index) d all within = each_at t lines index d all.1 (omega arith)

@@ -1,7 +1,8 @@
 -- What the words of a command line are owed: which status, and which text.
 use Rattle.std.specs.Prelude.{◌≡◌, ℕ, ◌⊎◌, List, [], ◌∷◌, ◌++◌, codes}
 use Rattle.rdb_runner.specs.CommandLine.{Word, Command, replay, run, audit, check, job, IsCommandLine, word_of}
-use Rattle.rdb_runner.specs.Promise.{JobOwes, names_of}
+use Rattle.rdb_runner.specs.Parts.{names_of}
+use Rattle.rdb_runner.specs.Promise.{JobOwes}
 use Rattle.rdb_runner.specs.Reading.{Sight, AsksFirst}
 use Rattle.rdb_runner.specs.SchemaFile.{CheckOwes}
 use Rattle.rdb_runner.specs.Telling.{Ink, Tells, IsCutOff, IsSilent}

@@ -1,11 +1,11 @@
-pub mod Decimal
 pub mod Job
-pub mod PlainClient
+pub mod Parts
+pub mod PlainJob
 pub mod PlainReport
-pub mod PlainSchedule
 pub mod PlainSchema
 pub mod Promise
 pub mod Reading
+pub mod Runs
 pub mod SchemaFile
 pub mod Telling
 pub mod Command

@@ -1,52 +1,48 @@
 -- What the commands promise: which status comes with which text, and why.
-use Rattle.std.specs.Prelude.{◌≡◌, ℕ, ◌+◌, ◌⊎◌, List, [], ◌∷◌, ◌++◌, take, codes, Some, slice_get, true, false}
+use Rattle.std.specs.Prelude.{◌≡◌, ℕ, ◌+◌, ◌⊎◌, List, ◌++◌, take, codes, Some, slice_get}
 use Rattle.std.specs.Prelude.{Result, Ok, Err}
 use Rattle.std.specs.List.{concat}
-use Rattle.rdb_runner.specs.declared.replay.NoReport.{NoReport}
-use Rattle.rdb_runner.specs.declared.replay.NoReport.TheVariants as no
-use Rattle.rdb_runner.specs.declared.replay.Halt.{Halt}
-use Rattle.rdb_runner.specs.declared.replay.Halt.TheVariants as halt
-use Rattle.rdb_runner.specs.PlainClient.{IsClientOf}
-use Rattle.rdb_runner.specs.declared.plain_client.PlainStep.{PlainStep}
-use Rattle.rdb_runner.specs.PlainReport.{IsReportOf}
-use Rattle.rdb_runner.specs.PlainSchedule.{is_plain_schedule}
-use Rattle.rdb_runner.specs.PlainSchema.{IsPlain, IsPlainWith}
-use Rattle.rdb_runner.specs.SchemaFile.{IsBadSchema}
 use Rattle.rdb_schema.specs.declared.schema.Schema.{Schema}
-use Rattle.rdb_ddl.specs.Read.{IsRead, IsRefused}
+use Rattle.rdb_ddl.specs.Read.{IsRefused}
+use Rattle.rdb_script.specs.declared.item.Item.{Item}
+use Rattle.rdb_script.specs.declared.unit.Script.{Script}
+use Rattle.rdb_script.specs.declared.unit.ScriptLine.{ScriptLine}
+use Rattle.rdb_script.specs.Schedule.{IsSchedule}
+use Rattle.rdb_script.specs.Scripts.{IsScript}
+use Rattle.rdb_runner.specs.declared.halt.Halt.{Halt}
+use Rattle.rdb_runner.specs.declared.halt.Halt.TheVariants as halt
+use Rattle.rdb_runner.specs.Parts.{names_of, AreParts, HasRefusedScript, HasRefusedSchedule, IsBadScript, IsBadSchedule}
+use Rattle.rdb_runner.specs.PlainJob.{IsPlainJob, IsOther}
+use Rattle.rdb_runner.specs.PlainReport.{IsReportOf}
+use Rattle.rdb_runner.specs.SchemaFile.{IsBadSchema}
 use Rattle.rdb_runner.specs.Reading.{Sight, Asks, AreBytesOf, CannotRead, AllRead, IsUnreadable, AsksFirst}
 use Rattle.rdb_runner.specs.Telling.{Ink, Tells, IsCutOff, IsSilent}
-
--- the three names of a job's files: its schema, its schedule and its client
-abbrev pub names_of : List ℕ → List ℕ → List ℕ → List (List ℕ)
-names_of schema schedule client = schema ∷ schedule ∷ client ∷ []
 
 -- done: the text is the report of the files
 abbrev pub IsDone : List (List ℕ) → Sight → List ℕ → Type 0
 IsDone names sight text =
     (schema schedule client : List ℕ) × AllRead sight names (names_of schema schedule client) × IsReportOf schema schedule client text
 
--- the text declares a schema, which isn't of the simplest form
-abbrev pub IsOtherSchema : List ℕ → Type 0
-IsOtherSchema text = (schema : Schema) × IsRead text schema × (IsPlain schema → ⊥)
+-- the three texts are read, each in one way, and the first of them, by its place, isn't of the simplest form
+pub record IsFirstOther (schema_text schedule_text client_text : List ℕ) (place : ℕ) : Type 0 where
+  pub schema : Schema
+  pub items : List Item
+  pub script : Script
+  pub parts : AreParts schema_text schedule_text client_text schema items script
+  pub script_only : (another : Script) → IsScript schema client_text another → script ≡ another
+  pub items_only : (others : List Item) → IsSchedule 1 schedule_text others → items ≡ others
+  pub other : IsOther schema items script place
 
--- the text declares a schema of the simplest form, with a class of this name
-abbrev pub DeclaresPlain : List ℕ → List ℕ → Type 0
-DeclaresPlain text name = (schema : Schema) × IsRead text schema × IsPlainWith schema name
-
--- the first of the texts, by its place, that isn't of the simplest form
-abbrev pub IsFirstOther : List ℕ → List ℕ → List ℕ → ℕ → Type 0
-IsFirstOther schema schedule client place =
-    ((place ≡ 0) × IsOtherSchema schema)
-    ⊎ (((place ≡ 1) × (name : List ℕ) × DeclaresPlain schema name × (is_plain_schedule schedule ≡ false))
-    ⊎ ((place ≡ 2) × (name : List ℕ) × DeclaresPlain schema name × (is_plain_schedule schedule ≡ true) × ((steps : List PlainStep) → IsClientOf name client steps → ⊥)))
-
--- what the work on three texts gives: the report's lines, the schema's first fault, or the first text that isn't of the simplest form
-abbrev pub IsWork : List ℕ → List ℕ → List ℕ → Result (List (List ℕ)) NoReport → Type 0
+-- what the work on three texts gives: the report's lines, the first fault of the schema, of the client or of the schedule, or the
+-- first text that isn't of the simplest form
+abbrev pub IsWork : List ℕ → List ℕ → List ℕ → Result (List (List ℕ)) Halt → Type 0
 IsWork schema schedule client (Ok lines) = IsReportOf schema schedule client (concat lines)
-IsWork schema schedule client (Err (no.Refused fault)) = IsRefused schema fault
-IsWork schema schedule client (Err (no.Other place)) = IsFirstOther schema schedule client place
-IsWork schema schedule client (Err no.NoMemory) = Unit {0}
+IsWork schema schedule client (Err (halt.Unreadable place)) = ⊥
+IsWork schema schedule client (Err (halt.BadSchema fault)) = IsRefused schema fault
+IsWork schema schedule client (Err (halt.BadScript line)) = HasRefusedScript schema client line
+IsWork schema schedule client (Err (halt.BadSchedule number)) = HasRefusedSchedule schema schedule client number
+IsWork schema schedule client (Err (halt.NotBuilt place)) = IsFirstOther schema schedule client place
+IsWork schema schedule client (Err halt.NoMemory) = Unit {0}
 
 -- not built: the first file that isn't of the simplest form is named
 abbrev pub IsNotBuilt : List (List ℕ) → Sight → List ℕ → Type 0
@@ -59,7 +55,9 @@ abbrev pub JobOwes : List (List ℕ) → Sight → ℕ → List ℕ → Type 0
 JobOwes names sight status text =
     ((status ≡ 0) × IsDone names sight text)
     ⊎ (((status ≡ 3) × IsUnreadable names sight text)
-    ⊎ (((status ≡ 4) × IsBadSchema names sight text) ⊎ ((status ≡ 10) × IsNotBuilt names sight text)))
+    ⊎ (((status ≡ 4) × IsBadSchema names sight text)
+    ⊎ (((status ≡ 5) × IsBadScript names sight text)
+    ⊎ (((status ≡ 6) × IsBadSchedule names sight text) ⊎ ((status ≡ 10) × IsNotBuilt names sight text)))))
 
 -- the files tell these texts, and each is of the simplest form
 pub record ArePlain (names : List (List ℕ)) (sight : Sight) : Type 0 where
@@ -73,24 +71,20 @@ pub record ArePlain (names : List (List ℕ)) (sight : Sight) : Type 0 where
   pub schema_told : sight.told schema_name ≡ Some schema_text
   pub schedule_told : sight.told schedule_name ≡ Some schedule_text
   pub client_told : sight.told client_name ≡ Some client_text
-  pub class : List ℕ
-  pub steps : List PlainStep
-  pub schema_plain : DeclaresPlain schema_text class
-  pub schedule_plain : is_plain_schedule schedule_text ≡ true
-  pub client_plain : IsClientOf class client_text steps
+  pub schema : Schema
+  pub items : List Item
+  pub script : Script
+  pub lines : List ScriptLine
+  pub parts : AreParts schema_text schedule_text client_text schema items script
+  pub plain : IsPlainJob schema items script lines
 
--- what a job's work gives: the report's lines, the first file that can't be read, the schema's first fault, or the first
--- file that isn't of the simplest form
+-- what a job's work gives: the first file that can't be read, or what the work on the files' texts gives
 abbrev pub IsJobWork : List (List ℕ) → Sight → Result (List (List ℕ)) Halt → Type 0
-IsJobWork names sight (Ok lines) = IsDone names sight (concat lines)
 IsJobWork names sight (Err (halt.Unreadable place)) =
     (name : List ℕ) × (texts : List (List ℕ)) × (slice_get names place ≡ Some name) × AreBytesOf sight.told (take place names) texts
     × CannotRead sight name × Asks sight (take (place + 1) names)
-IsJobWork names sight (Err (halt.Refused fault)) =
-    (schema schedule client : List ℕ) × AllRead sight names (names_of schema schedule client) × IsRefused schema fault
-IsJobWork names sight (Err (halt.NotBuilt place)) =
-    (schema schedule client : List ℕ) × AllRead sight names (names_of schema schedule client) × IsFirstOther schema schedule client place
 IsJobWork names sight (Err halt.NoMemory) = sight.faults_then ≡ sight.faults
+IsJobWork names sight result = (schema schedule client : List ℕ) × AllRead sight names (names_of schema schedule client) × IsWork schema schedule client result
 
 -- How a job ends: what is due is told, or memory is wanting and nothing is written.
 pub record JobEnds (names : List (List ℕ)) (sight : Sight) (ink : Ink) (result : ℕ) : Type 0 where

@@ -4,11 +4,10 @@
 pub mod check;
 pub mod command_line;
 mod decimal;
-mod front;
-mod plain_client;
+mod halt;
+mod part_reading;
+mod plain_job;
 mod plain_run;
-mod plain_schedule;
-mod plain_schema;
 pub mod reading;
 pub mod region;
 pub mod replay;

@@ -4,7 +4,8 @@ ghost use Rattle.std.specs.Prelude.{◌≡◌, ◌≢◌, ◌⊎◌, ◌<◌, �
 ghost use Rattle.rdb_runner.specs.Command.{IsNoCommandLine, WordsEnd, CommandEnds, AsksFor, AsksToCheck, AsksForFiles, AsksForOther, AsksInOrder, IsCutShort, SeesNothing, usage_line};
 ghost use Rattle.rdb_runner.specs.CommandLine.{Word, IsCommandLine, command_of, IsWithinLimits, texts};
 ghost use Rattle.rdb_runner.specs.Job.{files_of};
-ghost use Rattle.rdb_runner.specs.Promise.{JobEnds, IsDone, IsNotBuilt, ArePlain, names_of};
+ghost use Rattle.rdb_runner.specs.Parts.{names_of, IsBadScript, IsBadSchedule, HasBadScript, HasBadSchedule};
+ghost use Rattle.rdb_runner.specs.Promise.{JobEnds, IsDone, IsNotBuilt, ArePlain};
 ghost use Rattle.rdb_runner.specs.Reading.{sight_of, IsUnreadable, HasTooLong};
 ghost use Rattle.rdb_runner.specs.SchemaFile.{IsChecked, IsBadSchema, HasBadSchema};
 ghost use Rattle.rdb_runner.specs.Telling.{Writes, IsSilent, ink_of, Shows};
@@ -111,8 +112,9 @@ fn end_words<F: Files, K: Sink>(alloc: Global, words: &[String], files: &mut F, 
 
 /// Does what the words of a command line ask for, over these files and this sink, and answers the status: 0 where all is
 /// done, 2 where the words are no command line, 3 where a file can't be read, 4 where a schema breaks the grammar or a
-/// rule, 7 where a write failed, 8 where memory was wanting, and 10 where the command or a file's form isn't built yet.
-/// It always returns. The cost grows with the files.
+/// rule, 5 where a client is no script for the schema, 6 where a schedule is none for the clients, 7 where a write
+/// failed, 8 where memory was wanting, and 10 where the command or a file's form isn't built yet. Where several hold,
+/// the first of 2, 3, 4, 5, 6 and 10 is told. It always returns. The cost grows with the files.
 pub fn region_main<F: Files, K: Sink, G: Gate + Sync>(
     alloc: Global,
     words: &[String],
@@ -120,7 +122,7 @@ pub fn region_main<F: Files, K: Sink, G: Gate + Sync>(
     out: &mut K,
     _gate: &G,
 ) -> u8
-    ensures statuses { Contains (0 ∷ 2 ∷ 3 ∷ 4 ∷ 7 ∷ 8 ∷ 10 ∷ []) result }
+    ensures statuses { Contains (0 ∷ 2 ∷ 3 ∷ 4 ∷ 5 ∷ 6 ∷ 7 ∷ 8 ∷ 10 ∷ []) result }
 
     // 0: the text is the report of the job that the words ask for, or the canonical text of the schema that they ask to
     // check, and all of it was written.
@@ -146,6 +148,20 @@ pub fn region_main<F: Files, K: Sink, G: Gate + Sync>(
         × Shows (ink_of K.written K.faults out.old out.new) (IsBadSchema names (sight_of F.told F.asked F.faults files.old files.new)) }
     ensures refused { (names : List Word) → AsksForFiles (map string_bytes words.now) names
         → HasBadSchema names (sight_of F.told F.asked F.faults files.old files.new) → Contains (3 ∷ 4 ∷ 7 ∷ 8 ∷ []) result }
+
+    // 5: exactly where all files of a job are read, the schema is one and the client is no script for it, with the first
+    // line that is refused.
+    ensures bad_script { result ≡ 5 → (names : List Word) × AsksFor (map string_bytes words.now) names
+        × Shows (ink_of K.written K.faults out.old out.new) (IsBadScript names (sight_of F.told F.asked F.faults files.old files.new)) }
+    ensures no_script { (names : List Word) → AsksFor (map string_bytes words.now) names
+        → HasBadScript names (sight_of F.told F.asked F.faults files.old files.new) → Contains (3 ∷ 5 ∷ 7 ∷ 8 ∷ []) result }
+
+    // 6: exactly where all files of a job are read, the schema and the client are read, and the schedule is none for one
+    // client, with the first item that is refused.
+    ensures bad_schedule { result ≡ 6 → (names : List Word) × AsksFor (map string_bytes words.now) names
+        × Shows (ink_of K.written K.faults out.old out.new) (IsBadSchedule names (sight_of F.told F.asked F.faults files.old files.new)) }
+    ensures no_schedule { (names : List Word) → AsksFor (map string_bytes words.now) names
+        → HasBadSchedule names (sight_of F.told F.asked F.faults files.old files.new) → Contains (3 ∷ 6 ∷ 7 ∷ 8 ∷ []) result }
 
     // 10: a command that isn't built, or files that aren't all of the simplest form, and never for what is built.
     ensures not_built { result ≡ 10 → Shows (ink_of K.written K.faults out.old out.new) (AsksForOther (map string_bytes words.now))

@@ -1,36 +1,37 @@
 //! The command `replay`: reads the files of a job, runs its client and writes the report.
 //! It touches the caller's files and sink alone.
 
-ghost use Rattle.std.specs.Prelude.{◌≡◌, ◌≢◌, ◌≤◌, ◌<◌, ℕ, List, [], ◌∷◌, length, Contains, IfOk, Some, slice_get};
+ghost use Rattle.std.specs.Prelude.{◌≡◌, ◌≢◌, ◌≤◌, ◌<◌, ℕ, List, [], ◌∷◌, length, true, Contains, IfOk, Some, slice_get};
 ghost use Rattle.std.specs.List.{concat, AllByRecursion};
-ghost use Rattle.rdb_runner.specs.PlainClient.{IsStep};
-ghost use Rattle.rdb_runner.specs.PlainReport.{IsPrinted};
 ghost use Rattle.rdb_ddl.specs.Read.{IsRead};
-ghost use Rattle.rdb_runner.specs.PlainSchema.{IsPlain};
-ghost use Rattle.rdb_runner.specs.SchemaFile.{IsBadSchema, HasBadSchema};
 ghost use Rattle.rdb_runner.specs.Job.{files_of};
-ghost use Rattle.rdb_runner.specs.Promise.{IsWork, IsJobWork, JobEnds, names_of, IsDone, IsNotBuilt, IsInterrupted, ArePlain};
+ghost use Rattle.rdb_runner.specs.Parts.{names_of, IsBadScript, IsBadSchedule, HasBadScript, HasBadSchedule};
+ghost use Rattle.rdb_runner.specs.PlainReport.{IsPrinted};
+ghost use Rattle.rdb_runner.specs.PlainSchema.{is_plain_schema};
+ghost use Rattle.rdb_runner.specs.Promise.{IsWork, IsJobWork, JobEnds, IsDone, IsNotBuilt, IsInterrupted, ArePlain};
 ghost use Rattle.rdb_runner.specs.Reading.{sight_of, AsksFirst, IsUnreadable, HasTooLong};
+ghost use Rattle.rdb_runner.specs.Runs.{CanRun};
+ghost use Rattle.rdb_runner.specs.SchemaFile.{IsBadSchema, HasBadSchema};
 ghost use Rattle.rdb_runner.specs.Telling.{IsSilent, ink_of, Shows};
 
-use crate::plain_client::{PlainStep, read_plain_client};
+use crate::halt::Halt;
+use crate::part_reading::{schedule_in, script_in};
+use crate::plain_job::plain_job;
 use crate::plain_run::plain_journal;
-use crate::plain_schedule::is_plain_schedule;
-use crate::plain_schema::plain_class;
 use crate::reading::{Unread, read_all};
 use crate::schema_reading::{NoSchema, schema_in};
-use crate::telling::{NO_MEMORY, tell_fault, tell_lines, tell_name};
+use crate::telling::{NO_MEMORY, tell_fault, tell_item, tell_line, tell_lines, tell_name};
 use rdb_base::files::Files;
 use rdb_base::identity::Manager;
 use rdb_base::list::{List, NoMemory};
 use rdb_base::sink::Sink;
 use rdb_base::text::{Text, Texts};
-use rdb_ddl::fault::DdlFault;
 use rdb_journal::endings::End;
 use rdb_journal::entries::Lines;
 use rdb_journal::summary::report;
 use rdb_schema::schema::Schema;
-use std::alloc::{AllocError, AllocFailed, Global};
+use rdb_script::unit::ScriptLines;
+use std::alloc::Global;
 
 /// A region with its manager and its pages, a schema, a schedule and the clients, each by the name of its file.
 #[derive(Debug, Drop)]
@@ -43,43 +44,14 @@ pub struct Job {
     pub clients: Texts,
 }
 
-/// Why there is no report: the schema's first fault, the place of the first text that isn't of the simplest form, or
-/// want of memory.
-#[derive(Clone, Copy, Debug, PartialEq, Eq)]
-enum NoReport {
-    Refused(DdlFault),
-    Other(usize),
-    NoMemory,
-}
-
-impl<T: Drop> From<AllocFailed<T>> for NoReport {
-    ghost use Rattle.rdb_runner.specs.declared.replay.NoReport.TheVariants.{NoMemory};
-
-    ghost from_gives = { λ _ e. e ≡ NoMemory };
-
-    fn from(_failed: AllocFailed<T>) -> NoReport {
-        NoReport::NoMemory
-    }
-}
-
-impl From<AllocError> for NoReport {
-    ghost use Rattle.rdb_runner.specs.declared.replay.NoReport.TheVariants.{NoMemory};
-
-    ghost from_gives = { λ _ e. e ≡ NoMemory };
-
-    fn from(_failed: AllocError) -> NoReport {
-        NoReport::NoMemory
-    }
-}
-
-/// The lines of the report of a schema and a client, once their texts are read.
-fn lines_of(alloc: Global, schema: &Schema, steps: &List<PlainStep>) -> Result<Lines, NoMemory>
-    requires plain { IsPlain schema.now }
-    requires few { length steps.now ≤ 1000 }
-    requires each { AllByRecursion IsStep steps.now }
-    ensures { IfOk result (λ lines. IsPrinted schema.now steps.now (concat lines)) }
+/// The lines of the report of a schema and a client's lines. The cost grows with them.
+fn lines_of(alloc: Global, schema: &Schema, lines: &ScriptLines) -> Result<Lines, NoMemory>
+    requires plain { is_plain_schema schema.now ≡ true }
+    requires few { length lines.now ≤ 1000 }
+    requires each { AllByRecursion (CanRun schema.now) lines.now }
+    ensures { IfOk result (λ text. IsPrinted schema.now lines.now (concat text)) }
 {
-    let journal = plain_journal(alloc, schema, steps)?;
+    let journal = plain_journal(alloc, schema, lines)?;
     let mut ends = List::new(alloc);
     ends.push(End::Done)?;
     let mut notes = List::new(alloc);
@@ -87,54 +59,41 @@ fn lines_of(alloc: Global, schema: &Schema, steps: &List<PlainStep>) -> Result<L
     report(alloc, schema, &journal, &ends, &notes)
 }
 
-/// The lines of the report of a schema that was read and these texts, where each is of the simplest form. The cost grows
-/// with the texts.
+/// The lines of the report of a schema that was read and these texts; else the first fault of the client, then of the
+/// schedule, or the first file that isn't of the simplest form. The cost grows with the texts.
 fn report_over(
     alloc: Global,
     schema: &Schema,
     schedule: &[u8],
     client: &[u8],
-) -> Result<Lines, NoReport>
+) -> Result<Lines, Halt>
     ensures { (text : List ℕ) → IsRead text schema.now → IsWork text schedule.now client.now result }
 {
-    let Some(class) = plain_class(schema) else {
-        return Err(NoReport::Other(0));
+    let script = match script_in(alloc, schema, client) {
+        Ok(script) => script,
+        Err(halt) => return Err(halt),
     };
-    if !is_plain_schedule(schedule) {
-        return Err(NoReport::Other(1));
+    let items = match schedule_in(alloc, schedule) {
+        Ok(items) => items,
+        Err(halt) => return Err(halt),
+    };
+    match plain_job(schema, &items, &script) {
+        Ok(lines) => Ok(lines_of(alloc, schema, lines)?),
+        Err(place) => Err(Halt::NotBuilt(place)),
     }
-    let Some(steps) = read_plain_client(alloc, class.as_bytes(), client)? else {
-        return Err(NoReport::Other(2));
-    };
-    Ok(lines_of(alloc, schema, &steps)?)
 }
 
-/// The lines of the report of these texts, where the first declares a schema and each is of the simplest form. The cost
-/// grows with the texts.
-fn report_of(
-    alloc: Global,
-    schema: &[u8],
-    schedule: &[u8],
-    client: &[u8],
-) -> Result<Lines, NoReport>
+/// The lines of the report of these texts; else the first fault of the schema, then of the client, then of the schedule,
+/// or the first file that isn't of the simplest form. The cost grows with the texts.
+fn report_of(alloc: Global, schema: &[u8], schedule: &[u8], client: &[u8]) -> Result<Lines, Halt>
     requires { length schema.now ≤ 16777216 }
     ensures { IsWork schema.now schedule.now client.now result }
 {
     match schema_in(alloc, schema) {
         Ok(schema) => report_over(alloc, &schema, schedule, client),
-        Err(NoSchema::Refused(fault)) => Err(NoReport::Refused(fault)),
-        Err(NoSchema::NoMemory) => Err(NoReport::NoMemory),
+        Err(NoSchema::Refused(fault)) => Err(Halt::BadSchema(fault)),
+        Err(NoSchema::NoMemory) => Err(Halt::NoMemory),
     }
-}
-
-/// Why a job ends without its report: the place of the first file that can't be read, the schema's first fault, the place
-/// of the first file that isn't of the simplest form, or want of memory.
-#[derive(Clone, Copy, Debug, PartialEq, Eq)]
-enum Halt {
-    Unreadable(usize),
-    Refused(DdlFault),
-    NotBuilt(usize),
-    NoMemory,
 }
 
 /// The lines of a job's report, its files read in order.
@@ -156,17 +115,12 @@ fn work<F: Files>(
     let [schema, schedule, client] = texts.as_slice() else {
         return Err(Halt::NoMemory);
     };
-    match report_of(
+    report_of(
         alloc,
         schema.as_slice(),
         schedule.as_slice(),
         client.as_slice(),
-    ) {
-        Ok(lines) => Ok(lines),
-        Err(NoReport::Refused(fault)) => Err(Halt::Refused(fault)),
-        Err(NoReport::Other(place)) => Err(Halt::NotBuilt(place)),
-        Err(NoReport::NoMemory) => Err(Halt::NoMemory),
-    }
+    )
 }
 
 /// The name at this place.
@@ -198,7 +152,9 @@ fn end_job<F: Files, K: Sink>(
             let name = name_at(schema, schedule, client, place);
             tell_name(alloc, out, 3, "regiondb: cannot read ", name)
         }
-        Err(Halt::Refused(fault)) => tell_fault(alloc, out, &fault),
+        Err(Halt::BadSchema(fault)) => tell_fault(alloc, out, &fault),
+        Err(Halt::BadScript(line)) => tell_line(alloc, out, 1, line),
+        Err(Halt::BadSchedule(item)) => tell_item(alloc, out, item),
         Err(Halt::NotBuilt(place)) => {
             let name = name_at(schema, schedule, client, place);
             tell_name(alloc, out, 10, "regiondb: not built ", name)
@@ -221,12 +177,13 @@ fn end<F: Files, K: Sink>(alloc: Global, job: &Job, files: &mut F, out: &mut K) 
 /// Replays a job: reads its files in order, runs its client and writes the report. Until other forms are built it is
 /// for jobs with one client, whose files are of the simplest form. The cost grows with the files and the report.
 ///
-/// The status is 0 where all is done, 3 where a file can't be read, 4 where the schema is refused, 10 where a file isn't
-/// of the simplest form, 7 where a write failed and 8 where memory was wanting.
+/// The status is 0 where all is done, 3 where a file can't be read, 4 where the schema is refused, 5 where the client is
+/// refused, 6 where the schedule is refused, 10 where a file isn't of the simplest form, 7 where a write failed and 8
+/// where memory was wanting. Where several hold, the first of 3, 4, 5, 6 and 10 is told.
 pub fn replay<F: Files, K: Sink>(alloc: Global, job: &Job, files: &mut F, out: &mut K) -> u8
     requires pages { (1 ≤ job.now.pages) × (job.now.pages ≤ 16384) }
     requires one_client { length job.now.clients ≡ 1 }
-    ensures statuses { Contains (0 ∷ 3 ∷ 4 ∷ 7 ∷ 8 ∷ 10 ∷ []) result }
+    ensures statuses { Contains (0 ∷ 3 ∷ 4 ∷ 5 ∷ 6 ∷ 7 ∷ 8 ∷ 10 ∷ []) result }
 
     // 0: the text is the report, and all of it was written.
     ensures done { result ≡ 0 → Shows (ink_of K.written K.faults out.old out.new)
@@ -242,6 +199,18 @@ pub fn replay<F: Files, K: Sink>(alloc: Global, job: &Job, files: &mut F, out: &
     ensures bad_schema { result ≡ 4 → Shows (ink_of K.written K.faults out.old out.new)
         (IsBadSchema (files_of job.now) (sight_of F.told F.asked F.faults files.old files.new)) }
     ensures refused { HasBadSchema (files_of job.now) (sight_of F.told F.asked F.faults files.old files.new) → Contains (3 ∷ 4 ∷ 7 ∷ 8 ∷ []) result }
+
+    // 5: exactly where all files are read, the schema is one and the client is no script for it, with the first line that
+    // is refused.
+    ensures bad_script { result ≡ 5 → Shows (ink_of K.written K.faults out.old out.new)
+        (IsBadScript (files_of job.now) (sight_of F.told F.asked F.faults files.old files.new)) }
+    ensures no_script { HasBadScript (files_of job.now) (sight_of F.told F.asked F.faults files.old files.new) → Contains (3 ∷ 5 ∷ 7 ∷ 8 ∷ []) result }
+
+    // 6: exactly where all files are read, the schema and the client are read, and the schedule is none for one client,
+    // with the first item that is refused.
+    ensures bad_schedule { result ≡ 6 → Shows (ink_of K.written K.faults out.old out.new)
+        (IsBadSchedule (files_of job.now) (sight_of F.told F.asked F.faults files.old files.new)) }
+    ensures no_schedule { HasBadSchedule (files_of job.now) (sight_of F.told F.asked F.faults files.old files.new) → Contains (3 ∷ 6 ∷ 7 ∷ 8 ∷ []) result }
 
     // 10: never for files of the simplest form.
     ensures not_built { result ≡ 10 → Shows (ink_of K.written K.faults out.old out.new)

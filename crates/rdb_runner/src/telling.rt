@@ -2,6 +2,7 @@
 
 ghost use Rattle.std.specs.Prelude.{◌≡◌, ◌++◌, ◌⊎◌, codes, IfOk, OnOk, OnErr, string_bytes};
 ghost use Rattle.std.specs.List.{concat};
+ghost use Rattle.rdb_runner.specs.Parts.{script_line, schedule_line};
 ghost use Rattle.rdb_runner.specs.SchemaFile.{fault_line};
 ghost use Rattle.rdb_runner.specs.Telling.{Tells, Writes, IsCutOff, IsSilent, ink_of};
 
@@ -85,6 +86,44 @@ pub fn tell_fault<K: Sink>(alloc: Global, out: &mut K, fault: &DdlFault) -> u8
 {
     match line_of_fault(alloc, fault) {
         Ok(line) => tell(out, 4, line.as_bytes()),
+        Err(_) => NO_MEMORY,
+    }
+}
+
+/// The line that tells a client's first line that is refused.
+fn line_of_script(alloc: Global, client: u32, line: u64) -> Result<String, NoMemory>
+    ensures { IfOk result (λ text. string_bytes text ≡ script_line client line) }
+{
+    format!(in alloc; "regiondb: script {client} line {line}\n")
+}
+
+/// Writes the line of a client's first line that is refused, and answers 5, that the write failed, or that memory was
+/// wanting and nothing was written.
+pub fn tell_line<K: Sink>(alloc: Global, out: &mut K, client: u32, line: u64) -> u8
+    ensures { Tells (ink_of K.written K.faults out.old out.new) 5 (script_line client line) result
+        ⊎ ((result ≡ 8) × IsSilent (ink_of K.written K.faults out.old out.new)) }
+{
+    match line_of_script(alloc, client, line) {
+        Ok(text) => tell(out, 5, text.as_bytes()),
+        Err(_) => NO_MEMORY,
+    }
+}
+
+/// The line that tells a schedule's first item that is refused.
+fn line_of_item(alloc: Global, item: u64) -> Result<String, NoMemory>
+    ensures { IfOk result (λ text. string_bytes text ≡ schedule_line item) }
+{
+    format!(in alloc; "regiondb: schedule item {item}\n")
+}
+
+/// Writes the line of a schedule's first item that is refused, and answers 6, that the write failed, or that memory was
+/// wanting and nothing was written.
+pub fn tell_item<K: Sink>(alloc: Global, out: &mut K, item: u64) -> u8
+    ensures { Tells (ink_of K.written K.faults out.old out.new) 6 (schedule_line item) result
+        ⊎ ((result ≡ 8) × IsSilent (ink_of K.written K.faults out.old out.new)) }
+{
+    match line_of_item(alloc, item) {
+        Ok(text) => tell(out, 6, text.as_bytes()),
         Err(_) => NO_MEMORY,
     }
 }

@@ -13,6 +13,9 @@ use std::test::Fail;
 
 const SCHEMA: &[u8] = b"declare database shop; class Item { uint4 n; autoid; };";
 
+/// A class of two fields.
+const PAIR: &[u8] = b"declare database shop; class Pair { uint4 a; uint4 b; autoid; };";
+
 /// A schema that a replay can't run yet.
 const WIDE: &[u8] = b"declare database shop; class Item { uint8 n; autoid; };";
 
@@ -22,6 +25,12 @@ const BROKEN: &[u8] = b"declare datab";
 const SCHEDULE: &[u8] = b"1* 1";
 
 const CLIENT: &[u8] = b"begin rw\nnew Item {7}\nget Item 1\ncommit\n";
+
+/// A client that writes in a transaction that only reads.
+const FAULTY: &[u8] = b"begin ro\nnew Item {5}\ncommit\n";
+
+/// A client that isn't of the simplest form.
+const COUNTING: &[u8] = b"begin rw\ncount Item\ncommit\n";
 
 const REPORT: &[u8] =
     b"commit 1 client 1 tx 1 begun 0 snapshot 0\n  new Item {7} -> made 1\n  get Item 1 -> {7}\nclosed client 1\nclient 1 done\ntotal commits 1 reads 0 aborts 0 handled 0\n";
@@ -50,6 +59,10 @@ fn files(alloc: Global, failing: &[u32]) -> Result<MemoryFiles, NoMemory> {
     files.put("wide", WIDE)?;
     files.put("schedule", SCHEDULE)?;
     files.put("client1", CLIENT)?;
+    files.put("nine", b"9")?;
+    files.put("steps", b"1 1 1 1")?;
+    files.put("faulty", FAULTY)?;
+    files.put("counting", COUNTING)?;
     Ok(files)
 }
 
@@ -89,6 +102,25 @@ fn a_report_needs_no_files_that_tell(rt: HostRuntime) -> Result<(), Fail> {
 }
 
 #[test]
+fn a_row_of_two_numbers_is_made_and_read(rt: HostRuntime) -> Result<(), Fail> {
+    let alloc = rt.alloc();
+    let mut files = MemoryFiles::new(alloc, List::new(alloc));
+    files.put("schema", PAIR)?;
+    files.put("schedule", b" 1*\r\n\t1\n")?;
+    files.put(
+        "client1",
+        b"# a pair\r\nbegin rw retry 3\r\nx = new Pair { 1 , 02 }\r\n\r\nget Pair 1\r\ncommit",
+    )?;
+    let mut out = MemorySink::new(alloc, List::new(alloc), List::new(alloc));
+    let line = "replay schema schedule client1";
+    assert_eq!(rt; status(alloc, line, &mut files, &mut out)?, 0);
+    let report =
+        b"commit 1 client 1 tx 1 begun 0 snapshot 0\n  new Pair {1,2} -> made 1\n  get Pair 1 -> {1,2}\nclosed client 1\nclient 1 done\ntotal commits 1 reads 0 aborts 0 handled 0\n";
+    assert!(rt; out.bytes() == report.as_slice());
+    Ok(())
+}
+
+#[test]
 fn each_refusal_has_its_status_and_line(rt: HostRuntime) -> Result<(), Fail> {
     let alloc = rt.alloc();
     let table = [
@@ -105,8 +137,30 @@ fn each_refusal_has_its_status_and_line(rt: HostRuntime) -> Result<(), Fail> {
         ),
         (
             "replay schema schedule schedule",
+            5,
+            "regiondb: script 1 line 1\n",
+        ),
+        (
+            "replay schema schedule faulty",
+            5,
+            "regiondb: script 1 line 2\n",
+        ),
+        ("replay wide nine faulty", 5, "regiondb: script 1 line 2\n"),
+        (
+            "replay schema nine client1",
+            6,
+            "regiondb: schedule item 1\n",
+        ),
+        ("replay wide nine client1", 6, "regiondb: schedule item 1\n"),
+        (
+            "replay schema steps client1",
             10,
-            "regiondb: not built schedule\n",
+            "regiondb: not built steps\n",
+        ),
+        (
+            "replay schema schedule counting",
+            10,
+            "regiondb: not built counting\n",
         ),
         (
             "replay broken schedule client1",
@@ -130,8 +184,8 @@ fn each_refusal_has_its_status_and_line(rt: HostRuntime) -> Result<(), Fail> {
         ),
         (
             "replay schema client1 client1",
-            10,
-            "regiondb: not built client1\n",
+            6,
+            "regiondb: schedule item 1\n",
         ),
         ("replay schema schedule", 10, "regiondb: not built replay\n"),
         ("run schema client1", 10, "regiondb: not built run\n"),

@@ -1,4 +1,4 @@
-use Rattle.rdb_runner.proofs.CommandLemmas.{words_status, words_done, words_usage, words_none, words_unreadable, words_failed_read, words_too_long, words_bad_schema, words_refused, words_check_built, words_not_built, words_plain, words_cut, words_memory}
+use Rattle.rdb_runner.proofs.CommandLemmas.{words_status, words_done, words_usage, words_none, words_unreadable, words_failed_read, words_too_long, words_bad_schema, words_refused, words_bad_script, words_no_script, words_bad_schedule, words_no_schedule, words_check_built, words_not_built, words_plain, words_cut, words_memory}
 use Rattle.rdb_runner.proofs.region.region_main.Goals as goal
 
 pub returns-clause-statuses : goal.returns-clause-statuses
@@ -42,3 +42,15 @@ returns-clause-refused g c = words_refused _ _ _ _ c.end_words.ensures.ends
 
 pub returns-clause-check_is_built : goal.returns-clause-check_is_built
 returns-clause-check_is_built g c = words_check_built _ _ _ _ c.end_words.ensures.ends
+
+pub returns-clause-bad_script : goal.returns-clause-bad_script
+returns-clause-bad_script g c = words_bad_script _ _ _ _ c.end_words.ensures.ends
+
+pub returns-clause-no_script : goal.returns-clause-no_script
+returns-clause-no_script g c = words_no_script _ _ _ _ c.end_words.ensures.ends
+
+pub returns-clause-bad_schedule : goal.returns-clause-bad_schedule
+returns-clause-bad_schedule g c = words_bad_schedule _ _ _ _ c.end_words.ensures.ends
+
+pub returns-clause-no_schedule : goal.returns-clause-no_schedule
+returns-clause-no_schedule g c = words_no_schedule _ _ _ _ c.end_words.ensures.ends

@@ -1,4 +1,4 @@
-use Rattle.rdb_runner.proofs.JobLemmas.{job_bad_schema, job_refused, job_done, job_unreadable, job_not_built, job_interrupted, job_memory, job_status, job_failed_read, job_too_long, job_plain}
+use Rattle.rdb_runner.proofs.JobLemmas.{job_bad_schema, job_refused, job_bad_script, job_no_script, job_bad_schedule, job_no_schedule, job_done, job_unreadable, job_not_built, job_interrupted, job_memory, job_status, job_failed_read, job_too_long, job_plain}
 use Rattle.rdb_runner.proofs.replay.replay.Goals as goal
 
 pub returns-clause-statuses : goal.returns-clause-statuses
@@ -39,3 +39,15 @@ returns-clause-bad_schema g c = job_bad_schema _ _ _ _ c.end.ensures.told
 
 pub returns-clause-refused : goal.returns-clause-refused
 returns-clause-refused g c = job_refused _ _ _ _ c.end.ensures.told
+
+pub returns-clause-bad_script : goal.returns-clause-bad_script
+returns-clause-bad_script g c = job_bad_script _ _ _ _ c.end.ensures.told
+
+pub returns-clause-no_script : goal.returns-clause-no_script
+returns-clause-no_script g c = job_no_script _ _ _ _ c.end.ensures.told
+
+pub returns-clause-bad_schedule : goal.returns-clause-bad_schedule
+returns-clause-bad_schedule g c = job_bad_schedule _ _ _ _ c.end.ensures.told
+
+pub returns-clause-no_schedule : goal.returns-clause-no_schedule
+returns-clause-no_schedule g c = job_no_schedule _ _ _ _ c.end.ensures.told

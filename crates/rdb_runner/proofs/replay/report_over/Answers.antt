@@ -1,26 +1,24 @@
-use Rattle.std.proofs.Common.{ℕ, List, Option, inl, inr, refl, sym, ◌∙◌, subst}
-use Rattle.std.specs.Prelude.{IfSome, IfNone}
-use Rattle.rdb_runner.specs.declared.plain_client.PlainStep.{PlainStep}
-use Rattle.rdb_runner.specs.PlainClient.{IsClientOf}
+use Rattle.rdb_runner.proofs.ScriptLines.{lines_can_run, lines_are_few}
+use Rattle.rdb_runner.proofs.WorkLemmas.{work_no_script, work_no_schedule, work_other, work_done}
 use Rattle.rdb_runner.proofs.replay.report_over.Goals as goal
 
-pub returns-then-not-is_plain_schedule : goal.returns-then-not-is_plain_schedule
-returns-then-not-is_plain_schedule c = λ text read.
-    inr (inl (refl, c.in-Some.class.now, (c.args.schema.now, read, c.in-Some.ensures.some), sym c.is_plain_schedule.ensures ∙ c.if-not-is_plain_schedule.true))
+pub lines_of-requires-clause-plain : goal.lines_of-requires-clause-plain
+lines_of-requires-clause-plain c = c.in-Ok-plain_job.ensures.plain.schema_plain
 
-pub returns-in_default-2 : goal.returns-in_default-2
-returns-in_default-2 c = λ text read.
-    let none = subst (λ (o : Option (List PlainStep)). IfNone o ((steps : List PlainStep) → IsClientOf c.as_bytes.result.now c.args.client.now steps → ⊥)) c.in_default-2.is c.in_ok-steps.ensures.none in
-    inr (inr (refl, c.in-Some.class.now, (c.args.schema.now, read, c.in-Some.ensures.some), sym c.is_plain_schedule.ensures ∙ c.if-not-is_plain_schedule.false, λ steps is. none steps (subst (λ (k : List ℕ). IsClientOf k c.args.client.now steps) (sym c.as_bytes.ensures.value) is)))
+pub lines_of-requires-clause-few : goal.lines_of-requires-clause-few
+lines_of-requires-clause-few c = lines_are_few c.args.schema.now c.args.client.now c.in-Ok-schedule_in.items c.in-Ok.script c.in-Ok-plain_job.lines.now c.in-Ok.ensures.read c.in-Ok-plain_job.ensures.plain
+
+pub lines_of-requires-clause-each : goal.lines_of-requires-clause-each
+lines_of-requires-clause-each c = lines_can_run c.args.schema.now c.args.client.now c.in-Ok-schedule_in.items c.in-Ok.script c.in-Ok-plain_job.lines.now c.in-Ok.ensures.read c.in-Ok-plain_job.ensures.plain
+
+pub returns-in-Err : goal.returns-in-Err
+returns-in-Err c = λ text read. work_no_script text c.args.schedule.now c.args.client.now c.args.schema.now c.in-Err.halt read c.in-Err.ensures.refused
+
+pub returns-in-Err-schedule_in : goal.returns-in-Err-schedule_in
+returns-in-Err-schedule_in c = λ text read. work_no_schedule text c.args.schedule.now c.args.client.now c.args.schema.now c.in-Ok.script c.in-Err-schedule_in.halt read c.in-Ok.ensures.read c.in-Err-schedule_in.ensures.refused
 
 pub returns : goal.returns
-returns c = λ text read. record {
-  schema = c.args.schema.now;
-  class = c.in-Some.class.now;
-  steps = c.in-Some-2.steps;
-  schema_read = read;
-  schema_plain = c.in-Some.ensures.some;
-  schedule_read = sym c.is_plain_schedule.ensures ∙ c.if-not-is_plain_schedule.false;
-  client_read = subst (λ (k : List ℕ). IsClientOf k c.args.client.now c.in-Some-2.steps) c.as_bytes.ensures.value (subst (λ (o : Option (List PlainStep)). IfSome o (IsClientOf c.as_bytes.result.now c.args.client.now)) c.in-Some-2.is c.in_ok-steps.ensures.found);
-  printed = c.in_ok-lines_of.ensures;
-}
+returns c = λ text read. work_other text c.args.schedule.now c.args.client.now c.args.schema.now c.in-Ok-schedule_in.items c.in-Ok.script read c.in-Ok.ensures.read c.in-Ok-schedule_in.ensures.read c.in-Err-plain_job.place c.in-Ok.ensures.only c.in-Ok-schedule_in.ensures.only c.in-Err-plain_job.ensures.other
+
+pub returns-in-Ok-plain_job : goal.returns-in-Ok-plain_job
+returns-in-Ok-plain_job c = λ text read. work_done text c.args.schedule.now c.args.client.now c.args.schema.now c.in-Ok-schedule_in.items c.in-Ok.script read c.in-Ok.ensures.read c.in-Ok-schedule_in.ensures.read c.in-Ok-plain_job.lines.now c.in_ok-lines_of-in-Ok-plain_job.field-0 c.in-Ok-plain_job.ensures.plain c.in_ok-lines_of-in-Ok-plain_job.ensures
