@@ -27,7 +27,7 @@ use Rattle.rdb_access.specs.declared.types.ValueType.{ValueType}
 use Rattle.rdb_access.specs.declared.types.ValueType.TheVariants as values
 use Rattle.rdb_access.specs.Types.{all_pairs, element_fits, value_fits, row_fits}
 use Rattle.rdb_access.specs.Encoding.{pattern, number_bytes, rect_bytes, leaf_bytes, leaves_bytes, element_bytes, value_bytes, row_bytes}
-use Rattle.rdb_access.specs.Proper.{HasEdges, IsProperLeaf, EachIs, IsProperElement, IsProperValue, IsProperRow}
+use Rattle.rdb_schema.specs.Proper.{HasEdges, IsProperLeaf, EachIs, IsProperElement, IsProperValue, IsProperRow}
 use Rattle.rdb_access.specs.Encodes.{Encodes}
 use Rattle.rdb_access.specs.Walk.{after_leaf, after_element, after_value}
 use Rattle.rdb_access.specs.Read.{edge_from, rect_from, read_leaf, read_leaves, read_element, read_elements, read_value, read_values}

@@ -13,7 +13,7 @@ use Rattle.rdb_access.specs.declared.types.ValueType.{ValueType}
 use Rattle.rdb_access.specs.declared.types.ValueType.TheVariants as values
 use Rattle.rdb_access.specs.Types.{value_fits, row_fits, number_fits}
 use Rattle.rdb_access.specs.Encoding.{pattern, number_bytes, value_bytes, row_bytes}
-use Rattle.rdb_access.specs.Proper.{EachIs, IsProperValue}
+use Rattle.rdb_schema.specs.Proper.{EachIs, IsProperValue}
 use Rattle.rdb_access.specs.Encodes.{Encodes}
 use Rattle.rdb_access.specs.Walk.{after_values, overwritten, overwritten_by, with_number_by, with_number}
 use Rattle.rdb_access.proofs.Lengths.{length-number}

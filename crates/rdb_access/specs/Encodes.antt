@@ -4,7 +4,7 @@ use Rattle.rdb_base.specs.declared.value.Value.{Value}
 use Rattle.rdb_access.specs.declared.types.ValueType.{ValueType}
 use Rattle.rdb_access.specs.Types.{row_fits}
 use Rattle.rdb_access.specs.Encoding.{row_bytes}
-use Rattle.rdb_access.specs.Proper.{IsProperRow}
+use Rattle.rdb_schema.specs.Proper.{IsProperRow}
 
 -- the row is one that a program can hold, it has a value of each type, and the bytes are its encoding
 pub record Encodes (types : List ValueType) (row : List Value) (bytes : List ℕ) : Type 0 where

@@ -1,6 +1,5 @@
 pub mod Types
 pub mod Encoding
-pub mod Proper
 pub mod Encodes
 pub mod Answers
 pub mod Walk

@@ -6,7 +6,7 @@ ghost use Rattle.rdb_schema.specs.Values.{num_holds, leaf_holds};
 ghost use Rattle.rdb_access.specs.Types.{all_pairs, element_fits, value_fits, row_fits};
 ghost use Rattle.rdb_access.specs.Encoding.{pattern, number_bytes, text_bytes, rect_bytes, leaf_bytes, leaves_bytes, element_bytes, vector_bytes, value_bytes, row_bytes};
 ghost use Rattle.std.specs.Str.{IsUtf8};
-ghost use Rattle.rdb_access.specs.Proper.{HasEdges, IsProperLeaf, EachIs, IsProperElement, IsProperValue, IsProperRow};
+ghost use Rattle.rdb_schema.specs.Proper.{HasEdges, IsProperLeaf, EachIs, IsProperElement, IsProperValue, IsProperRow};
 ghost use Rattle.rdb_access.specs.Answers.{IsEncodeAnswer};
 
 use crate::types::{ElementType, LeafTypes, ValueType, ValueTypes};

@@ -16,7 +16,7 @@ use Rattle.rdb_model.specs.Answer.{answer, clash, written}
 use Rattle.rdb_model.specs.Story.{same_reply, after}
 use Rattle.rdb_model.specs.Journal.{wrong_reply, was_made, made_by, made_in}
 use Rattle.rdb_base.specs.declared.operation.Reply.TheVariants as reply
-use Rattle.rdb_model.specs.Index.{indexes_of}
+use Rattle.rdb_schema.specs.Indexes.{indexes_of}
 
 -- what is left of a list, and what was passed, one element on
 pub drop_next : {A : Type 0} (xs : List A) (i : ℕ) (d : A) → i < length xs → d ≡ get_or xs i d → drop i xs ≡ d ∷ drop (i + 1) xs

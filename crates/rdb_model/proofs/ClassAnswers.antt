@@ -7,7 +7,8 @@ use Rattle.rdb_base.specs.declared.operation.Reply.{Reply}
 use Rattle.rdb_base.specs.declared.operation.Reply.TheVariants as reply
 use Rattle.rdb_schema.specs.declared.schema.Schema.{Schema}
 use Rattle.rdb_model.specs.Database.{Row, Objects, Database, row_of, with_row, without, objects_of, with_objects}
-use Rattle.rdb_model.specs.Index.{indexes_of, fields_of, key, has_key, index}
+use Rattle.rdb_schema.specs.Indexes.{indexes_of, fields_of}
+use Rattle.rdb_model.specs.Index.{key, has_key, index}
 use Rattle.rdb_model.specs.Answer.{ids_where, clash, sought, meets, words_of, longest_prefix, is_found, written, answer}
 use Rattle.rdb_model.specs.Touch.{class_of}
 use Rattle.rdb_model.proofs.Lacking.{told_at}

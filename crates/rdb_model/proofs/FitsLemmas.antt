@@ -2,7 +2,7 @@
 use Rattle.std.proofs.Common.{◌≡◌, ℕ, zero, suc, ◌<◌, ◌≤◌, Bool, true, false, ◌&&◌, List, [], ◌∷◌, length, None, slice_get, refl, arith}
 use Rattle.std.specs.Option.{option_map_or}
 use Rattle.rdb_schema.specs.declared.schema.Schema.{Schema}
-use Rattle.rdb_model.specs.Index.{indexes_of}
+use Rattle.rdb_schema.specs.Indexes.{indexes_of}
 
 -- a test that an element passes has an element
 pub in_range : {A : Type 0} (test : A → Bool) (xs : List A) (i : ℕ) → option_map_or test (slice_get xs i) false ≡ true → i < length xs

@@ -11,7 +11,7 @@ use Rattle.rdb_base.specs.declared.journal.Entry.{Entry}
 use Rattle.rdb_base.specs.declared.journal.Entry.TheVariants as entry
 use Rattle.rdb_schema.specs.declared.schema.Schema.{Schema}
 use Rattle.rdb_model.specs.Database.{Row, Database, row_of, with_row, without, objects_of, with_objects}
-use Rattle.rdb_model.specs.Index.{indexes_of}
+use Rattle.rdb_schema.specs.Indexes.{indexes_of}
 use Rattle.rdb_model.specs.Answer.{clash, answer}
 use Rattle.rdb_model.specs.Story.{same_reply, run, after}
 use Rattle.rdb_model.specs.Journal.{made_by, made_in, made_before, was_made}

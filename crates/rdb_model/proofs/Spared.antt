@@ -14,7 +14,8 @@ use Rattle.rdb_base.specs.declared.operation.Reply.TheVariants as reply
 use Rattle.rdb_schema.specs.declared.schema.Schema.{Schema}
 use Rattle.rdb_schema.specs.declared.schema.IndexDecl.{IndexDecl}
 use Rattle.rdb_model.specs.Database.{Row, Objects, row_of, with_row, without}
-use Rattle.rdb_model.specs.Index.{indexes_of, fields_of, key, has_key, index}
+use Rattle.rdb_schema.specs.Indexes.{indexes_of, fields_of}
+use Rattle.rdb_model.specs.Index.{key, has_key, index}
 use Rattle.rdb_model.specs.Answer.{ids_where, clash, sought, meets, words_of, starts, longest_prefix, is_found}
 use Rattle.rdb_model.specs.Journal.{made_by}
 use Rattle.rdb_model.specs.Touch.{shares_key, relates, rests}

@@ -7,7 +7,7 @@ use Rattle.rdb_base.specs.declared.operation.Reply.{Reply}
 use Rattle.rdb_base.specs.declared.operation.Reply.TheVariants as reply
 use Rattle.rdb_schema.specs.declared.schema.Schema.{Schema}
 use Rattle.rdb_model.specs.Database.{Row, Objects, Database, row_of, with_row, without, objects_of, with_objects}
-use Rattle.rdb_model.specs.Index.{indexes_of}
+use Rattle.rdb_schema.specs.Indexes.{indexes_of}
 use Rattle.rdb_model.specs.Answer.{clash, answer}
 use Rattle.rdb_model.specs.Story.{same_reply, run}
 use Rattle.rdb_model.specs.Touch.{class_of, written_by}

@@ -17,7 +17,8 @@ use Rattle.rdb_base.specs.declared.operation.Reply.TheVariants as reply
 use Rattle.rdb_schema.specs.declared.schema.Schema.{Schema}
 use Rattle.rdb_schema.specs.declared.schema.IndexDecl.{IndexDecl}
 use Rattle.rdb_model.specs.Database.{Row, Objects, Database, row_of, with_row, without, objects_of, with_objects}
-use Rattle.rdb_model.specs.Index.{indexes_of, fields_of, key, has_key, pair_order, index}
+use Rattle.rdb_schema.specs.Indexes.{indexes_of, fields_of}
+use Rattle.rdb_model.specs.Index.{key, has_key, pair_order, index}
 
 -- the ids of the objects whose rows pass a test
 abbrev pub ids_where : (Row → Bool) → Objects → List ℕ

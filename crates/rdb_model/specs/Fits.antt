@@ -1,6 +1,6 @@
 -- Which operations fit a schema, and which databases.
 use Rattle.std.specs.Prelude.{ℕ, Bool, true, false, ◌&&◌, ◌≤◌, nat_lt, nat_le, int_le, List, [], length, slice_get, IsTrue}
-use Rattle.std.specs.List.{filter_map, All}
+use Rattle.std.specs.List.{All}
 use Rattle.std.specs.Option.{option_map_or}
 use Rattle.rdb_base.specs.declared.identity.Kind.{Kind}
 use Rattle.rdb_base.specs.declared.identity.Kind.TheVariants as kind
@@ -9,13 +9,11 @@ use Rattle.rdb_base.specs.declared.operation.Op.TheVariants as op
 use Rattle.rdb_base.specs.declared.operation.Reply.{Reply}
 use Rattle.rdb_base.specs.declared.operation.Place.{Place}
 use Rattle.rdb_base.specs.declared.operation.Place.TheVariants as place
-use Rattle.rdb_schema.specs.declared.schema.Field.{Field}
 use Rattle.rdb_schema.specs.declared.schema.IndexKind.{IndexKind}
-use Rattle.rdb_schema.specs.declared.schema.IndexKind.TheVariants as index_kind
 use Rattle.rdb_schema.specs.declared.schema.Schema.{Schema}
+use Rattle.rdb_schema.specs.Indexes.{indexes_of, key_fields, finds_keys, is_tree, is_rtree, is_patricia}
 use Rattle.rdb_schema.specs.Values.{values_hold, row_holds, row_length}
 use Rattle.rdb_model.specs.Database.{Row}
-use Rattle.rdb_model.specs.Index.{indexes_of, fields_of}
 
 -- whether a schema has a class of that number
 abbrev pub has_class : Schema → ℕ → Bool
@@ -25,10 +23,6 @@ has_class schema class = nat_lt class (length schema.classes)
 abbrev pub fits_row : Schema → ℕ → Row → Bool
 fits_row schema class row = row_holds schema class row && nat_le (row_length schema class row) 4000
 
--- the declarations of the fields of an index's key
-abbrev pub key_fields : Schema → ℕ → ℕ → List Field
-key_fields schema class index = option_map_or (λ c. filter_map (slice_get c.fields) (fields_of schema class index)) (slice_get schema.classes class) []
-
 -- whether a key has the index's key fields' types
 abbrev pub fits_key : Schema → ℕ → ℕ → Row → Bool
 fits_key schema class index key = values_hold schema (key_fields schema class index) key
@@ -36,24 +30,6 @@ fits_key schema class index key = values_hold schema (key_fields schema class in
 -- whether a class has an index of that number whose kind passes a test
 abbrev pub has_index : Schema → ℕ → ℕ → (IndexKind → Bool) → Bool
 has_index schema class index passes = option_map_or (λ i. passes i.kind) (slice_get (indexes_of schema class) index) false
-
--- the tests of an index's kind
-abbrev pub finds_keys : IndexKind → Bool
-finds_keys index_kind.Hash = true
-finds_keys index_kind.Tree = true
-finds_keys _ = false
-
-abbrev pub is_tree : IndexKind → Bool
-is_tree index_kind.Tree = true
-is_tree _ = false
-
-abbrev pub is_rtree : IndexKind → Bool
-is_rtree index_kind.Rtree = true
-is_rtree _ = false
-
-abbrev pub is_patricia : IndexKind → Bool
-is_patricia index_kind.Patricia = true
-is_patricia _ = false
 
 -- whether a kind of transaction may write
 abbrev pub may_write : Kind → Bool

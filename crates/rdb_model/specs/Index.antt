@@ -1,21 +1,10 @@
 -- The plain indexes: keys, and the pairs of a key and an id in order.
 use Rattle.std.specs.Prelude.{ℕ, Bool, List, [], ◌∷◌, slice_get, if◌then◌else◌}
 use Rattle.std.specs.List.{filter_map}
-use Rattle.std.specs.Option.{option_map_or}
 use Rattle.std.specs.Ordering.{ordering_then, nat_cmp, is_eq, is_lt}
 use Rattle.std.specs.declared.cmp.Ordering.{Ordering}
 use Rattle.rdb_base.specs.Order.{row_order}
-use Rattle.rdb_schema.specs.declared.schema.Schema.{Schema}
-use Rattle.rdb_schema.specs.declared.schema.IndexDecl.{IndexDecl}
 use Rattle.rdb_model.specs.Database.{Row, Objects}
-
--- the indexes of a class
-abbrev pub indexes_of : Schema → ℕ → List IndexDecl
-indexes_of schema class = option_map_or (λ c. c.indexes) (slice_get schema.classes class) []
-
--- the fields of an index's key
-abbrev pub fields_of : Schema → ℕ → ℕ → List ℕ
-fields_of schema class index = option_map_or (λ i. i.key) (slice_get (indexes_of schema class) index) []
 
 -- the values of a row at the fields of a key
 abbrev pub key : List ℕ → Row → Row

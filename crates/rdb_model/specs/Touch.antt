@@ -14,7 +14,8 @@ use Rattle.rdb_base.specs.declared.journal.Entry.{Entry}
 use Rattle.rdb_schema.specs.declared.schema.Schema.{Schema}
 use Rattle.rdb_schema.specs.declared.schema.IndexDecl.{IndexDecl}
 use Rattle.rdb_model.specs.Database.{Row, Database, objects_of, row_of}
-use Rattle.rdb_model.specs.Index.{indexes_of, fields_of, key, has_key, pair_order, pair_of}
+use Rattle.rdb_schema.specs.Indexes.{indexes_of, fields_of}
+use Rattle.rdb_model.specs.Index.{key, has_key, pair_order, pair_of}
 use Rattle.rdb_model.specs.Answer.{is_beyond, meets, words_of, starts}
 use Rattle.rdb_model.specs.Story.{after}
 use Rattle.rdb_model.specs.Journal.{done_of}

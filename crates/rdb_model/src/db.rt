@@ -10,7 +10,7 @@ ghost use Rattle.rdb_model.specs.Database.{empty, objects_of, row_of};
 ghost use Rattle.rdb_model.specs.Story.{after, IsAfterSome};
 ghost use Rattle.rdb_model.specs.Answer.{answer};
 ghost use Rattle.rdb_model.specs.Fits.{Fits, HasFewIndexes};
-ghost use Rattle.rdb_model.specs.Index.{indexes_of};
+ghost use Rattle.rdb_schema.specs.Indexes.{indexes_of};
 
 use crate::clash::find_clash;
 use crate::declared::{class_indexes, index_fields};

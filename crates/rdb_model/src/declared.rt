@@ -1,7 +1,7 @@
 //! What a schema declares of a class. It lends parts of the schema.
 
 ghost use Rattle.std.specs.Prelude.{◌≡◌, ◌<◌, length};
-ghost use Rattle.rdb_model.specs.Index.{indexes_of, fields_of};
+ghost use Rattle.rdb_schema.specs.Indexes.{indexes_of, fields_of};
 
 use rdb_schema::schema::{Indexes, Numbers, Schema};
 

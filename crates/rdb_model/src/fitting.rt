@@ -4,8 +4,8 @@ ghost use Rattle.std.specs.Prelude.{◌≡◌, ◌↔◌, IsTrue, slice_get};
 ghost use Rattle.std.specs.List.{filter_map};
 ghost use Rattle.std.specs.Option.{option_map, option_copied};
 ghost use Rattle.rdb_schema.specs.Values.{values_hold};
-ghost use Rattle.rdb_model.specs.Index.{indexes_of, fields_of};
-ghost use Rattle.rdb_model.specs.Fits.{fits, fits_row, fits_key, fits_place, may_write, finds_keys, has_class, HasFewIndexes};
+ghost use Rattle.rdb_schema.specs.Indexes.{indexes_of, fields_of, finds_keys};
+ghost use Rattle.rdb_model.specs.Fits.{fits, fits_row, fits_key, fits_place, may_write, has_class, HasFewIndexes};
 
 use rdb_base::identity::Kind;
 use rdb_base::operation::{Op, Place};

@@ -12,7 +12,7 @@ use Rattle.rdb_schema.specs.declared.schema.Schema.{Schema}
 use Rattle.rdb_model.specs.Database.{Database, Row, row_of, objects_of}
 use Rattle.rdb_model.specs.Answer.{answer}
 use Rattle.rdb_model.specs.Fits.{Fits, HasFewIndexes, fits_row}
-use Rattle.rdb_model.specs.Index.{indexes_of}
+use Rattle.rdb_schema.specs.Indexes.{indexes_of}
 use Rattle.rdb_journal.specs.Lines.{StepNamesExist}
 use Rattle.rdb_runner.specs.PlainReport.{operation_of}
 use Rattle.rdb_runner.specs.PlainSchema.{is_plain_schema}

@@ -5,9 +5,9 @@ ghost use Rattle.std.specs.Prelude.{◌≡◌, ◌↔◌, ℕ, ◌+◌, ◌^◌,
 ghost use Rattle.std.specs.Str.Parse.{IsNumeral, digits_value};
 ghost use Rattle.rdb_runner.specs.CommandLine.{Word, Command, Part, Given, BeginsWithOption, BeginsWith, IsManagerOf, ArePagesOf, text_of, Gives, HasSettings, HasNoSettings, AsksBy, IsCommandLine, IsWithinLimits, command_of, part_of, given_of, with_names, Adds};
 
-use crate::decimal::number;
 use arrayvec::ArrayVec;
 use rdb_base::identity::Manager;
+use rdb_schema::decimal::number;
 
 /// The most clients of one replay or run.
 pub const MAX_CLIENTS: usize = 16;

@@ -3,7 +3,6 @@
 
 pub mod check;
 pub mod command_line;
-mod decimal;
 mod halt;
 mod part_reading;
 mod plain_job;

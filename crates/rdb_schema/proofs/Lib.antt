@@ -5,3 +5,13 @@ pub mod Passing
 pub mod Building
 pub mod ValuesLemmas
 pub mod SmallLemmas
+pub mod BlankLemmas
+pub mod DecimalLemmas
+pub mod ListLemmas
+pub mod NumberLemmas
+pub mod PrintedLemmas
+pub mod PrintedValueLemmas
+pub mod RectLemmas
+pub mod SpellingLemmas
+pub mod ValueLemmas
+pub mod KeyLemmas

@@ -1,6 +1,11 @@
 pub mod Printed
 pub mod Values
+pub mod Indexes
 pub mod Rules
 pub mod Seen
 pub mod Meaning
 pub mod Capped
+pub mod Proper
+pub mod FirstSigns
+pub mod SpelledValues
+pub mod Spelling

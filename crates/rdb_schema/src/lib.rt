@@ -1,13 +1,16 @@
 //! Schemas: what classes, fields, indexes and events a database has.
 #![tactic(auto)]
 
+pub mod decimal;
 mod declared;
 mod first_fault;
+pub mod front;
 pub mod lengths;
 pub mod printed;
 mod resolver;
 mod rules;
 pub mod schema;
+pub mod spelled;
 pub mod syntax;
 pub mod values;
 

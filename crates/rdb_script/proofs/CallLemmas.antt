@@ -14,7 +14,8 @@ use Rattle.rdb_script.specs.declared.statement.Origin.{Origin}
 use Rattle.rdb_script.specs.declared.statement.Target.{Target}
 use Rattle.rdb_script.specs.declared.statement.Where.{Where}
 use Rattle.rdb_script.specs.Lines.{word, behind}
-use Rattle.rdb_script.specs.Statements.{Known, class_of, index_with, finds_keys, is_tree, is_rtree, is_patricia, where_of, inside_of, how_of, IsLastRow, IsLastKey, IsLastRect, IsLastText, IsTarget, IsOrigin, IsNew, IsPut, IsFind, IsSeek, IsArea, IsPrefix}
+use Rattle.rdb_schema.specs.Indexes.{finds_keys, is_tree, is_rtree, is_patricia}
+use Rattle.rdb_script.specs.Statements.{Known, class_of, index_with, where_of, inside_of, how_of, IsLastRow, IsLastKey, IsLastRect, IsLastText, IsTarget, IsOrigin, IsNew, IsPut, IsFind, IsSeek, IsArea, IsPrefix}
 use Rattle.rdb_script.proofs.FoundLemmas.{same_found, moved, some_is}
 
 second : (text r v s : List ℕ) → r ≡ behind text → v ≡ word r → v ≡ word (behind text)

@@ -1,10 +1,7 @@
-pub mod FirstSigns
 pub mod Job
 pub mod JobScripts
 pub mod Lines
 pub mod Schedule
 pub mod Scripts
-pub mod SpelledValues
-pub mod Spelling
 pub mod Statements
 pub mod Stream

@@ -20,9 +20,9 @@ use Rattle.rdb_base.specs.declared.value.Value.{Value}
 use Rattle.rdb_schema.specs.declared.schema.Class.{Class}
 use Rattle.rdb_schema.specs.declared.schema.IndexDecl.{IndexDecl}
 use Rattle.rdb_schema.specs.declared.schema.IndexKind.{IndexKind}
-use Rattle.rdb_schema.specs.declared.schema.IndexKind.TheVariants as index_kind
 use Rattle.rdb_schema.specs.declared.schema.Event.{Event}
 use Rattle.rdb_schema.specs.declared.schema.Schema.{Schema}
+use Rattle.rdb_schema.specs.Indexes.{finds_keys, is_tree, is_rtree, is_patricia}
 use Rattle.rdb_schema.specs.Values.{row_length}
 use Rattle.rdb_script.specs.declared.names.Assigned.{Assigned}
 use Rattle.rdb_script.specs.declared.statement.Keyword.{Keyword}
@@ -39,7 +39,7 @@ use Rattle.rdb_script.specs.declared.statement.Origin.{Origin}
 use Rattle.rdb_script.specs.declared.statement.Target.{Target}
 use Rattle.rdb_script.specs.declared.unit.ScriptLine.{ScriptLine}
 use Rattle.rdb_script.specs.Lines.{word, behind, after_blanks, is_end, is_comment, is_name, name_in}
-use Rattle.rdb_script.specs.SpelledValues.{IsSpelledRow, IsSpelledKey, IsSpelledText, IsRectText}
+use Rattle.rdb_schema.specs.SpelledValues.{IsSpelledRow, IsSpelledKey, IsSpelledText, IsRectText}
 
 -- what names stand for
 abbrev pub Known : Type 0
@@ -140,23 +140,6 @@ kind_of schema m = option_map_or (λ c. option_map (λ i. i.kind) (slice_get c.i
 -- the index that a word names, where its kind passes a test
 unfoldable pub index_with : (IndexKind → Bool) → Schema → List ℕ → Option Member
 index_with passes schema w = option_and_then (λ m. if option_map_or passes (kind_of schema m) false then Some m else None) (index_of schema w)
-
-abbrev pub finds_keys : IndexKind → Bool
-finds_keys index_kind.Hash = true
-finds_keys index_kind.Tree = true
-finds_keys _ = false
-
-abbrev pub is_tree : IndexKind → Bool
-is_tree index_kind.Tree = true
-is_tree _ = false
-
-abbrev pub is_rtree : IndexKind → Bool
-is_rtree index_kind.Rtree = true
-is_rtree _ = false
-
-abbrev pub is_patricia : IndexKind → Bool
-is_patricia index_kind.Patricia = true
-is_patricia _ = false
 
 -- whether scripts may name a class's objects by number
 unfoldable pub has_autoid : Schema → ℕ → Bool

@@ -1,9 +1,7 @@
 //! Clients' scripts, and the schedules by which a job's clients take their steps.
 #![tactic(auto)]
 
-mod decimal;
 pub mod fault;
-mod front;
 pub mod item;
 mod job;
 mod job_script;
@@ -23,7 +21,6 @@ mod stream;
 mod tests;
 mod transaction;
 pub mod unit;
-pub mod values;
 mod word;
 
 pub use job::job_files;

@@ -4,7 +4,8 @@
 ghost use Rattle.std.specs.Prelude.{◌≡◌, ◌==◌, position, slice_get};
 ghost use Rattle.std.specs.Str.{bytes_eq};
 ghost use Rattle.std.specs.Option.{option_map, option_copied};
-ghost use Rattle.rdb_script.specs.Statements.{small, class_of, index_of, event_of, index_place, event_place, has_autoid, kind_of, finds_keys, is_tree, is_rtree, is_patricia, index_with, class_before, member_in};
+ghost use Rattle.rdb_schema.specs.Indexes.{finds_keys, is_tree, is_rtree, is_patricia};
+ghost use Rattle.rdb_script.specs.Statements.{small, class_of, index_of, event_of, index_place, event_place, has_autoid, kind_of, index_with, class_before, member_in};
 
 use crate::statement::Member;
 use rdb_schema::schema::{Class, Event, IndexDecl, IndexKind, Schema};

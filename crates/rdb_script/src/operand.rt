@@ -6,13 +6,13 @@ ghost use Rattle.rdb_script.specs.declared.statement.Target.{Target as Meant};
 ghost use Rattle.rdb_script.specs.Lines.{word};
 ghost use Rattle.rdb_script.specs.Statements.{IsNumber, IsTarget, IsNumbered, is_object, is_place_of, holds_place, cursor_in};
 
-use crate::decimal::{number, text_of};
 use crate::lookup::has_autoid;
 use crate::names::{Assigned, Names};
 use crate::statement::{Member, Target};
 use crate::word::{is_end, name_in, next_word};
 use rdb_base::list::NoMemory;
 use rdb_base::text::Text;
+use rdb_schema::decimal::{number, text_of};
 use rdb_schema::schema::Schema;
 use std::alloc::Global;
 

@@ -4,11 +4,11 @@ ghost use Rattle.std.specs.Prelude.{◌≡◌, ◌≢◌, ◌<◌, ◌≤◌, �
 ghost use Rattle.rdb_script.specs.declared.item.Item.{Item};
 ghost use Rattle.rdb_script.specs.Schedule.{separates, begins_word, words, word_of, IsOf, IsSchedule, IsFaultOf, IsReadAs};
 
-use crate::decimal::printed;
 use crate::fault::ScheduleFault;
-use crate::front::{after, before, is_word};
 use crate::item::{Item, Items};
 use rdb_base::list::List;
+use rdb_schema::decimal::printed;
+use rdb_schema::front::{after, before, is_word};
 use std::alloc::Global;
 
 /// The most items of a schedule.

@@ -8,7 +8,6 @@ ghost use Rattle.rdb_script.specs.declared.unit.ScriptLine.{ScriptLine as Line};
 ghost use Rattle.rdb_script.specs.Lines.{is_end};
 ghost use Rattle.rdb_script.specs.Statements.{IsRetries, IsRetriesBy, IsBegin, IsStop, IsEventText, IsPlain, IsAsked, IsAssignment, is_assignment, is_silent, IsSaidBy, IsStatement, assigns, verb_of};
 
-use crate::decimal::is_text;
 use crate::keyword::{keyword_of, mode_of, verb_of};
 use crate::lookup::event_of;
 use crate::names::Names;
@@ -20,6 +19,7 @@ use crate::word::{is_comment, is_end, name_in, next_word};
 use rdb_base::identity::Kind;
 use rdb_base::list::NoMemory;
 use rdb_base::text::Text;
+use rdb_schema::decimal::is_text;
 use rdb_schema::schema::Schema;
 use std::alloc::Global;
 

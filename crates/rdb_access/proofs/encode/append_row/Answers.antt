@@ -1,7 +1,7 @@
 -- One value more goes from those that are left to what is written.
 use Rattle.rdb_access.specs.Types.{value_fits}
 use Rattle.rdb_access.specs.Encoding.{value_bytes}
-use Rattle.rdb_access.specs.Proper.{IsProperValue}
+use Rattle.rdb_schema.specs.Proper.{IsProperValue}
 use Rattle.rdb_access.proofs.Proper.{each_more}
 use Rattle.rdb_access.proofs.Pairs.{all_here, all_rest, pairs_written}
 use Rattle.rdb_access.proofs.encode.append_row.Goals as goal

@@ -1,6 +1,6 @@
 use Rattle.std.proofs.Common.{◌≡◌, ◌++◌, drop, true}
 use Rattle.rdb_access.specs.Types.{row_fits}
-use Rattle.rdb_access.specs.Proper.{EachIs, IsProperValue}
+use Rattle.rdb_schema.specs.Proper.{EachIs, IsProperValue}
 use Rattle.rdb_access.specs.Encoding.{row_bytes}
 use Rattle.rdb_access.proofs.encode.append_row.Given as goal
 

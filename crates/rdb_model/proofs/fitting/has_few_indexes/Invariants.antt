@@ -1,5 +1,5 @@
 use Rattle.std.proofs.Common.{ℕ, ◌<◌, ◌≤◌, length}
-use Rattle.rdb_model.specs.Index.{indexes_of}
+use Rattle.rdb_schema.specs.Indexes.{indexes_of}
 use Rattle.rdb_model.proofs.fitting.has_few_indexes.Given as goal
 
 -- no class so far has many indexes

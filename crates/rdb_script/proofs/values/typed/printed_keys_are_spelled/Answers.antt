@@ -1,6 +1,0 @@
-use Rattle.rdb_script.specs.SpelledValues.{key_fields}
-use Rattle.rdb_script.proofs.PrintedValueLemmas.{key_printed}
-use Rattle.rdb_script.proofs.values.typed.printed_keys_are_spelled.Goals as goal
-
-pub returns : goal.returns
-returns c = λ schema class index key held proper. (key_printed schema (key_fields schema class index) key held proper, held)
