@@ -1,4 +1,4 @@
-//! Schemas: what classes, fields, indexes and events a database has.
+//! Schemas: what classes, fields, indexes and events a database has, which values they have, and values in text.
 #![tactic(auto)]
 
 pub mod decimal;
