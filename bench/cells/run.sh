@@ -1,21 +1,7 @@
 #!/bin/sh
-# Measures reads through plans and undo records, in a temporary folder. See README.md.
-set -e
-here=$(cd "$(dirname "$0")" && pwd)
-top=$(cd "$here/../.." && pwd)
-work=$(mktemp -d)
-trap 'rm -rf "$work"' EXIT
-mkdir -p "$work/crates/cells_bench/src"
-for crate in rdb_base rdb_pages rdb_cells; do
-    mkdir "$work/crates/$crate"
-    for part in src specs proofs; do
-        cp -r "$top/crates/$crate/$part" "$work/crates/$crate/"
-    done
-done
-cp "$top/HANDLES" "$work/"
-grep '^rdb_base:\|^rdb_pages:\|^rdb_cells:' "$top/crates.txt" > "$work/crates.txt"
-echo 'cells_bench: rdb_base rdb_pages rdb_cells' >> "$work/crates.txt"
-cp "$here/main.rt.txt" "$work/crates/cells_bench/src/main.rt"
+# Measures reads through plans and undo records. See README.md.
+. "$(dirname "$0")/../workspace.sh"
+lay_out cells_bench rdb_base rdb_pages rdb_cells
 for part in "$here"/invariants_*.antt.txt; do
     name=$(basename "$part" .antt.txt)
     mkdir -p "$work/crates/cells_bench/proofs/${name#invariants_}"

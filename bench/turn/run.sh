@@ -1,20 +1,8 @@
 #!/bin/sh
-# Measures the turn lock beside a Mutex, in a temporary folder. See README.md.
-set -e
-here=$(cd "$(dirname "$0")" && pwd)
-top=$(cd "$here/../.." && pwd)
-work=$(mktemp -d)
-trap 'rm -rf "$work"' EXIT
-mkdir -p "$work/crates/turn_bench/src"
-for crate in rdb_base rdb_turn; do
-    mkdir "$work/crates/$crate"
-    cp -r "$top/crates/$crate/src" "$top/crates/$crate/specs" "$top/crates/$crate/proofs" "$work/crates/$crate/"
-done
-cp "$top/HANDLES" "$work/"
-grep '^rdb_base\|^rdb_turn' "$top/crates.txt" > "$work/crates.txt"
-echo 'turn_bench: rdb_base rdb_turn' >> "$work/crates.txt"
+# Measures the turn lock beside a Mutex. See README.md.
+. "$(dirname "$0")/../workspace.sh"
+lay_out turn_bench rdb_base rdb_turn
 mkdir -p "$work/crates/turn_bench/proofs/main"
-cp "$here/main.rt.txt" "$work/crates/turn_bench/src/main.rt"
 cp "$here/invariants.antt.txt" "$work/crates/turn_bench/proofs/main/Invariants.antt"
 mutex() {
     cargo run --quiet --release --manifest-path "$here/mutex/Cargo.toml" --target-dir "$work/target"
