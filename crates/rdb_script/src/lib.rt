@@ -14,6 +14,8 @@ mod operation_reader;
 mod progress;
 mod schedule_reader;
 mod script_reader;
+#[cfg(test)]
+mod script_tests;
 mod statement;
 mod statement_reader;
 mod stream;
