@@ -17,7 +17,7 @@ use Rattle.rdb_turn.specs.declared.view.View.{View}
 use Rattle.rdb_turn.specs.declared.view.Stand.{Stand}
 use Rattle.rdb_turn.specs.declared.view.Stand.TheVariants.{Away, Waits, Inside}
 use Rattle.rdb_turn.specs.Rule.{all_shares, is_inside, turns_held, tickets_out, first_view, held_of, out_of, shares_of, IsClient, IsStopped, Owns, OwnsSlot, Follows, FollowsAll, KeepsPart, Stands, KnowsParts, Knows, Keeps}
-use Rattle.rdb_turn.specs.Steps.{Mine, standing, seeing, knowing, left_in, Draws, Looks, Raises, Releases, Fronts, KeepsFirst, KeepsSecond, Marks, Stops, Sees, MayLeave, MayRaise, MayRelease, entered, published, half_kept, half_given, part_kept, part_given, unagreed, both_stopped, both_views, spent_view}
+use Rattle.rdb_turn.specs.Steps.{Mine, standing, seeing, knowing, left_in, Draws, Looks, Raises, Releases, Fronts, KeepsFirst, KeepsSecond, Marks, Stops, AllowsSight, Sees, MayLeave, MayRaise, MayRelease, entered, published, half_kept, half_given, part_kept, part_given, unagreed, both_stopped, both_views, spent_view}
 use Rattle.rdb_turn.proofs.Beginnings.{follows_itself, follows_further, follows_between, all_further, all_of_both, part_further}
 use Rattle.rdb_turn.proofs.Parts.{owned_below, owned_left, owned_both, owned_without, owned_only}
 use Rattle.rdb_turn.proofs.Agreeing.{none_unagreed, stopped_both}
@@ -60,6 +60,12 @@ at_end [] a b (suc j) e = absurd (some-ne-none b (sym e))
 at_end (x ∷ xs) a b zero e = inl ((λ h. absurd (omega arith)), e)
 at_end (x ∷ xs) a b (suc j) e = ⊎_elim (λ (t : (j ≢ length xs) × (get_elem? xs j ≡ some b)). inl ((λ h. t.0 (omega arith)), t.1)) (λ (t : (j ≡ length xs) × (a ≡ b)). inr (omega arith, t.1)) (at_end xs a b j e)
 
+-- what is put where something is, is there
+set_there : {A : Type 0} (l : List A) (i : ℕ) (a b : A) → get_elem? l i ≡ some a → get_elem? (set l i b) i ≡ some b
+set_there [] i a b e = absurd (some-ne-none a (sym e))
+set_there (x ∷ xs) zero a b e = refl
+set_there (x ∷ xs) (suc i) a b e = set_there xs i a b e
+
 -- the board lies behind three other words
 set_board : (a b d : ℕ) (board : List ℕ) (client x : ℕ) → 1 ≤ client → set (a ∷ b ∷ d ∷ board) (2 + client) x ≡ a ∷ b ∷ d ∷ set board (client - 1) x
 set_board a b d board client x low = let at : 2 + client ≡ suc (suc (suc (client - 1))) = omega arith in ap (λ (i : ℕ). set (a ∷ b ∷ d ∷ board) i x) at
@@ -87,7 +93,7 @@ clear = 0 ∷ 0 ∷ 0 ∷ 0 ∷ 0 ∷ 0 ∷ 0 ∷ 0 ∷ 0 ∷ 0 ∷ 0 ∷ 0 ∷ 
 pub alone : (x y : ℕ) → Contains (x ∷ []) y → x ≡ y
 alone x y (k, low, at) = let first : k ≡ 0 = omega arith in subst (λ (i : ℕ). get_or (x ∷ []) i y ≡ y) first at
 
-first_of_all : (x : ℕ) → Contains (x ∷ []) x
+pub first_of_all : (x : ℕ) → Contains (x ∷ []) x
 first_of_all x = (0, omega arith, refl)
 
 pub none_there : (x : ℕ) → Contains [] x → ⊥
@@ -552,39 +558,56 @@ module _ {T E B P : Type 0} (c : Ghosts T E B P) (made : T) (boarded : Bool) whe
       told = k.told;
     }
 
-    sees_at : (word client : ℕ) → word ≡ 2 + client → IsClient client → (s : St) → Rule s → get_elem? s.views id ≡ some me.0 → Dec (get_or s.words word 0 ≡ 1)
-        → (w : View T) × (a : Act (Option T)) × Valid s.homes me.1 a × Rule (stepped s word (get_or s.words word 0) id me.1 w a) × Sees client me (get_or s.words word 0) (w, carried_after me.1 a)
-    sees_at word client is_word is s r at (yes found) =
+    sees_at : (fits : St → View T → Type 0) → AllowsSight Rule id fits → (word client : ℕ) → word ≡ 2 + client → IsClient client → (s : St) → Rule s → get_elem? s.views id ≡ some me.0 → Dec (get_or s.words word 0 ≡ 1)
+        → (w : View T) × (a : Act (Option T)) × Valid s.homes me.1 a × Rule (stepped s word (get_or s.words word 0) id me.1 w a) × Sees fits client me (get_or s.words word 0) (w, carried_after me.1 a)
+    sees_at fits shows word client is_word is s r at (yes found) =
         let k = r.knows id me.0 at in
         let word_is : get_or s.words word 0 ≡ get_or r.board (client - 1) 0 = ap (λ (i : ℕ). get_or s.words i 0) is_word ∙ (ap (λ (ws : List ℕ). get_or ws (2 + client) 0) r.words ∙ get_board (r.drawn % 2 ^ 64) (r.served % 2 ^ 64) (length (c.history r.now)) r.board client is.0) in
-        let stopped : IsStopped r.board client = sym word_is ∙ found in (
+        let stopped : IsStopped r.board client = sym word_is ∙ found in
+        let after : Rule record { words = s.words; homes = s.homes; views = set s.views id (knowing me.0 client) } = unmoved s r id me.0 (knowing me.0 client) s.words at refl refl refl k.follows k.stands (sees_yes s r client is at stopped) in (
           knowing me.0 client,
           keeps,
           tt,
           unmoved s r id me.0 (knowing me.0 client) (set s.words word (get_or s.words word 0)) at (set-get_or s.words word 0) refl refl k.follows k.stands (sees_yes s r client is at stopped),
-          record { yes = λ _. refl; no = λ ne. absurd (ne found); known = λ _. found; own = λ owns _. k.knows.own_word client owns is stopped },
+          record {
+            finds = record { table = record { words = s.words; homes = s.homes; views = set s.views id (knowing me.0 client) }; fit = shows _ (knowing me.0 client) (after, set_there s.views id me.0 (knowing me.0 client) at); word = ap (λ (i : ℕ). get_or s.words i 0) (sym is_word) };
+            yes = λ _. refl;
+            no = λ ne. absurd (ne found);
+            known = λ _. found;
+            own = λ owns _. k.knows.own_word client owns is stopped;
+          },
         )
-    sees_at word client is_word is s r at (no other) =
+    sees_at fits shows word client is_word is s r at (no other) =
         let k = r.knows id me.0 at in
         let word_is : get_or s.words word 0 ≡ get_or r.board (client - 1) 0 = ap (λ (i : ℕ). get_or s.words i 0) is_word ∙ (ap (λ (ws : List ℕ). get_or ws (2 + client) 0) r.words ∙ get_board (r.drawn % 2 ^ 64) (r.served % 2 ^ 64) (length (c.history r.now)) r.board client is.0) in (
           me.0,
           keeps,
           tt,
           still s (set s.words word (get_or s.words word 0)) id me.0 r at (set-get_or s.words word 0),
-          record { yes = λ found. absurd (other found); no = λ _. refl; known = λ h. word_is ∙ (k.knows.words client h).1; own = λ _ found. absurd (other found) },
+          record {
+            finds = record { table = s; fit = shows s me.0 (r, at); word = ap (λ (i : ℕ). get_or s.words i 0) (sym is_word) };
+            yes = λ found. absurd (other found);
+            no = λ _. refl;
+            known = λ h. word_is ∙ (k.knows.words client h).1;
+            own = λ _ found. absurd (other found);
+          },
         )
 
-    pub sees : (word client : ℕ) → word ≡ 2 + client → IsClient client → Allows Rule slots id me word (λ n. n) (Sees client me)
-    sees word client is_word is s r count at low = sees_at word client is_word is s r at (ℕ_discrete (get_or s.words word 0) 1)
+    pub sees : (fits : St → View T → Type 0) → AllowsSight Rule id fits → (word client : ℕ) → word ≡ 2 + client → IsClient client → Allows Rule slots id me word (λ n. n) (Sees fits client me)
+    sees fits shows word client is_word is s r count at low = sees_at fits shows word client is_word is s r at (ℕ_discrete (get_or s.words word 0) 1)
 
     -- both, as the steps name the client: by the word's number
     pub stops_word : (client : ℕ) → IsClient client → OwnsSlot me.0.owned client → Allows Rule slots id me (2 + client) (λ _. 1) (λ _ after. Stops (2 + client - 2) me after)
     stops_word client is owns = let e : client ≡ 2 + client - 2 = omega arith in
         subst (λ (k : ℕ). Allows Rule slots id me (2 + client) (λ _. 1) (λ _ after. Stops k me after)) e (stops (2 + client) client refl is owns)
 
-    pub sees_word : (client : ℕ) → IsClient client → Allows Rule slots id me (2 + client) (λ n. n) (λ found after. Sees (2 + client - 2) me found after)
-    sees_word client is = let e : client ≡ 2 + client - 2 = omega arith in
-        subst (λ (k : ℕ). Allows Rule slots id me (2 + client) (λ n. n) (λ found after. Sees k me found after)) e (sees (2 + client) client refl is)
+    pub sees_word : (fits : St → View T → Type 0) → AllowsSight Rule id fits → (client : ℕ) → IsClient client → Allows Rule slots id me (2 + client) (λ n. n) (λ found after. Sees fits (2 + client - 2) me found after)
+    sees_word fits shows client is = let e : client ≡ 2 + client - 2 = omega arith in
+        subst (λ (k : ℕ). Allows Rule slots id me (2 + client) (λ n. n) (λ found after. Sees fits k me found after)) e (sees fits shows (2 + client) client refl is)
+
+  -- what stands in the word of a client stands on the board
+  pub on_board : (s : St) (r : Rule s) (client found : ℕ) → IsClient client → get_or s.words (2 + client) 0 ≡ found → get_or r.board (client - 1) 0 ≡ found
+  on_board s r client found is at = sym (get_board (r.drawn % 2 ^ 64) (r.served % 2 ^ 64) (length (c.history r.now)) r.board client is.0) ∙ (ap (λ (ws : List ℕ). get_or ws (2 + client) 0) (sym r.words) ∙ at)
 
   -- a split keeps the rule where both passes know what is so, and each part goes to one of them
   cut_in_two : (s : St) (r : Rule s) (id : ℕ) (v kept given : View T) (holder : ℕ → ℕ) → get_elem? s.views id ≡ some v → v.stand ≡ Away → kept.stand ≡ Away → given.stand ≡ Away → kept.seen ≡ v.seen → given.seen ≡ v.seen

@@ -1,22 +1,24 @@
 -- What a pass knows after a call on its turn.
-use Rattle.std.proofs.Common.{◌≡◌, ◌≢◌, ℕ, ◌+◌, ◌%◌, ◌^◌, ◌⊎◌, Bool, true, false, List, [], ◌∷◌, ◌++◌, length, refl, ap, sym, ◌∙◌, subst, inl, inr, Option, Some, None, Contains}
+use Rattle.std.proofs.Common.{◌≡◌, ◌≢◌, ℕ, ◌+◌, ◌-◌, ◌%◌, ◌^◌, ◌⊎◌, Bool, true, false, eqb, List, [], ◌∷◌, ◌++◌, length, get_or, refl, ap, sym, ◌∙◌, subst, inl, inr, Option, Some, None, Contains, arith}
+use Rattle.std.proofs.lemmas.Bool.Decides.{nat_tests}
+use Rattle.std.proofs.lemmas.List.Elements.{Contains-append_left}
 use mathlib.Core.List.{IsPrefix}
 use mathlib.Core.Option.{some, some-injective}
 use mathlib.Core.Option as maybe
 use lib.ListN.{get_elem?}
 use Rattle.std.proofs.Math.Nat.{mod-add-mod}
-use Rattle.atomic_table.specs.Table.{Final, Seen}
+use Rattle.atomic_table.specs.Table.{State, Final, Seen}
 use Rattle.rdb_base.specs.declared.chronicle.Chronicle.{Ghosts}
 use Rattle.rdb_turn.specs.declared.view.View.{View}
 use Rattle.rdb_turn.specs.declared.view.Stand.{Stand}
 use Rattle.rdb_turn.specs.declared.view.Stand.TheVariants.{Away, Waits, Inside}
 use Rattle.rdb_turn.specs.Rule.{all_shares, is_inside, Follows, FollowsAll, KeepsPart, OwnsSlot, IsClient, Keeps}
-use Rattle.rdb_turn.specs.Steps.{Mine, standing, seeing, published, Welcomes, Raises, KeepsFirst, KeepsSecond, Settles, MayLeave, MayRaise, MayRelease, both_stopped, both_views}
+use Rattle.rdb_turn.specs.Steps.{Mine, standing, seeing, Sees, published, Welcomes, Raises, KeepsFirst, KeepsSecond, Settles, MayLeave, MayRaise, MayRelease, both_stopped, both_views}
 use Rattle.rdb_turn.specs.declared.pass.Pass.{Pass}
 use Rattle.rdb_turn.specs.declared.turn.Turn.{Turn}
-use Rattle.rdb_turn.specs.Passes.{Fits, history_of, EndsServed, EndsOut}
+use Rattle.rdb_turn.specs.Passes.{Fits, history_of, IsTableOf, SawStopped, IsStoppedInAll, SawRunning, EndsServed, EndsOut}
 use Rattle.rdb_turn.proofs.Beginnings.{follows_itself}
-use Rattle.rdb_turn.proofs.Kept.{closes, slot_of, all_served, sole_served, not_inside}
+use Rattle.rdb_turn.proofs.Kept.{closes, slot_of, all_served, sole_served, not_inside, first_of_all, on_board}
 
 -- the pass with the turn has a ticket and the emptied slot
 pub inside_at : {T : Type 0} (ticket : ℕ) (carried : List (ℕ × Option T)) (stand : Stand) → Fits ticket carried stand → is_inside stand ≡ true
@@ -92,6 +94,48 @@ module _ {T E B P : Type 0} (c : Ghosts T E B P) where
       let two : m.0.seen ≡ a ∷ b ∷ [] = ap (λ (k : Mine T). k.0.seen) was ∙ (λ i. saw i ++ saw' i) in
       let told = tells a b two in
       (told.kept, told.one, told.seen ∙ ap (λ (k : Mine T). (seeing k.0 told.kept, k.1)) was, told.of_first, told.of_second, told.counted, subst (λ (k : Mine T). ¬ Contains k.0.stopped 0) was told.agreed)
+
+  -- what was found in a client's word stands on the board of a table that the turn may have after the look
+  look_found : (turn : Turn T E B P) (id : ℕ) (new : Pass T) (client found : ℕ) (me : Mine T) → IsClient client → new.place.id ≡ id
+      → Sees (λ table view. Seen (Keeps c turn.table.shared.key.made.value turn.table.shared.key.boarded) id view table) client me found new.place.me
+      → (table : State (Option T) (View T)) × (is_table : IsTableOf c turn new table) × (get_or is_table.keeps.board (client - 1) 0 ≡ found)
+  look_found turn id new client found me is same sees =
+      let made = turn.table.shared.key.made.value in
+      let f = sees.finds in (
+        f.table,
+        record { keeps = f.fit.0; knows = ap (λ (i : ℕ). get_elem? f.table.views i) same ∙ f.fit.1 },
+        on_board c made turn.table.shared.key.boarded f.table f.fit.0 client found is f.word,
+      )
+
+  -- where the pass knows that a client has stopped, it has in every table that the turn may have
+  in_all : (turn : Turn T E B P) (new : Pass T) (client : ℕ) → Contains new.place.me.0.stopped client → IsStoppedInAll c turn new client
+  in_all turn new client known = λ table is_table.
+      let word = (is_table.keeps.knows new.place.id new.place.me.0 is_table.knows).knows.words client known in
+      record { word = word.1; owners = λ id view at owns. (is_table.keeps.knows id view at).knows.own_word client owns word.0 word.1 }
+
+  -- where a look found 1
+  pub stopped_in_all : (turn : Turn T E B P) (id : ℕ) (new : Pass T) (client found : ℕ) (me : Mine T)
+      → Sees (λ table view. Seen (Keeps c turn.table.shared.key.made.value turn.table.shared.key.boarded) id view table) client me found new.place.me
+      → eqb found 1 ≡ true → IsStoppedInAll c turn new client
+  stopped_in_all turn id new client found me sees is =
+      let one : found ≡ 1 = grind (arith, nat_tests, is) in
+      in_all turn new client (subst (λ (k : Mine T). Contains k.0.stopped client) (sym (sees.yes one)) (Contains-append_left (client ∷ []) me.0.stopped client (first_of_all client)))
+
+  pub saw_stopped : (turn : Turn T E B P) (id : ℕ) (new : Pass T) (client found : ℕ) (me : Mine T) → IsClient client → new.place.id ≡ id
+      → Sees (λ table view. Seen (Keeps c turn.table.shared.key.made.value turn.table.shared.key.boarded) id view table) client me found new.place.me
+      → eqb found 1 ≡ true → SawStopped c turn new client
+  saw_stopped turn id new client found me client_is same sees is =
+      let t = look_found turn id new client found me client_is same sees in
+      (t.0, t.1, stopped_in_all turn id new client found me sees is t.0 t.1)
+
+  -- and where it didn't
+  pub saw_running : (turn : Turn T E B P) (id : ℕ) (new : Pass T) (client found : ℕ) (me : Mine T) → IsClient client → new.place.id ≡ id
+      → Sees (λ table view. Seen (Keeps c turn.table.shared.key.made.value turn.table.shared.key.boarded) id view table) client me found new.place.me
+      → eqb found 1 ≡ false → SawRunning c turn new client
+  saw_running turn id new client found me client_is same sees is =
+      let other : found ≢ 1 = grind (arith, nat_tests, is) in
+      let t = look_found turn id new client found me client_is same sees in
+      (t.0, t.1, λ stopped. other (sym t.2 ∙ stopped))
 
   -- what is found as the turn ends
   pub ends : (made latest : T) (boarded : Bool) (ws : List ℕ) (xs : List (Option T)) (id : ℕ) (v : View T) (ticket serving : ℕ) (out : Option T)

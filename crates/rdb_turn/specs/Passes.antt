@@ -1,5 +1,5 @@
 -- What contracts say of a pass and its turn.
-use Rattle.std.specs.Prelude.{◌≡◌, ◌≢◌, ℕ, ◌%◌, ◌^◌, ◌<◌, ◌≤◌, List, [], ◌∷◌, length, Option, Some, None, Bool, true, false}
+use Rattle.std.specs.Prelude.{◌≡◌, ◌≢◌, ℕ, ◌%◌, ◌^◌, ◌<◌, ◌≤◌, List, [], ◌∷◌, length, Option, Some, None, Bool, Contains, true, false}
 use mathlib.Core.Option.{some}
 use lib.ListN.{get_elem?}
 use Rattle.atomic_table.specs.Table.{State}
@@ -9,7 +9,7 @@ use Rattle.rdb_turn.specs.declared.turn.Turn.{Turn}
 use Rattle.rdb_turn.specs.declared.view.View.{View}
 use Rattle.rdb_turn.specs.declared.view.Stand.{Stand}
 use Rattle.rdb_turn.specs.declared.view.Stand.TheVariants.{Away, Waits, Inside}
-use Rattle.rdb_turn.specs.Rule.{all_shares, is_inside, OwnsSlot, FollowsAll, parts_below, Keeps}
+use Rattle.rdb_turn.specs.Rule.{all_shares, is_inside, IsStopped, OwnsSlot, FollowsAll, parts_below, Keeps}
 
 -- what a pass holds of the slot, and its last ticket, fit where it stands: between two calls no pass waits
 abbrev pub Fits : {T : Type 0} → ℕ → List (ℕ × Option T) → Stand → Type 0
@@ -81,10 +81,27 @@ module _ {T E B P : Type 0} (c : Ghosts T E B P) where
     pub fits : Fits pass.ticket pass.place.me.1 pass.place.me.0.stand
     pub inside : is_inside pass.place.me.0.stand ≡ true → pass.place.me.0.gone ≡ c.gone latest
 
-  -- as the turn ends, its table may be this one: it keeps the rule, and in it the pass knows what it knows
+  -- the turn's table may be this one: it keeps the rule, and in it the pass knows what it knows
   pub record IsTableOf (turn : Turn T E B P) (pass : Pass T) (table : State (Option T) (View T)) : Type 0 where
     pub keeps : Keeps c turn.table.shared.key.made.value turn.table.shared.key.boarded table
     pub knows : get_elem? table.views pass.place.id ≡ some pass.place.me.0
+
+  -- in this table the client's word says that it has stopped, and every pass that owns the client's part knows it
+  pub record HasStopped (turn : Turn T E B P) (pass : Pass T) (client : ℕ) (table : State (Option T) (View T)) (is_table : IsTableOf turn pass table) : Type 0 where
+    pub word : IsStopped is_table.keeps.board client
+    pub owners : (id : ℕ) (view : View T) → get_elem? table.views id ≡ some view → OwnsSlot view.owned client → Contains view.stopped client
+
+  -- some table that the turn may have is one in which the client has stopped
+  abbrev pub SawStopped : Turn T E B P → Pass T → ℕ → Type 0
+  SawStopped turn pass client = (table : State (Option T) (View T)) × (is_table : IsTableOf turn pass table) × HasStopped turn pass client table is_table
+
+  -- and every such table is
+  abbrev pub IsStoppedInAll : Turn T E B P → Pass T → ℕ → Type 0
+  IsStoppedInAll turn pass client = (table : State (Option T) (View T)) (is_table : IsTableOf turn pass table) → HasStopped turn pass client table is_table
+
+  -- in some table that the turn may have, the client's word doesn't say that it has stopped
+  abbrev pub SawRunning : Turn T E B P → Pass T → ℕ → Type 0
+  SawRunning turn pass client = (table : State (Option T) (View T)) × (is_table : IsTableOf turn pass table) × (¬ IsStopped is_table.keeps.board client)
 
   -- the turn ends with as many tickets served as were drawn, and with this value in its slot, which goes on from all that any pass has seen
   pub record EndsServed (turn : Turn T E B P) (pass : Pass T) (value : T) : Type 0 where

@@ -1,6 +1,6 @@
 -- What each kind of step tells the one who steps: of the pass before, the number found and the pass after.
-use Rattle.std.specs.Prelude.{◌≡◌, ◌≢◌, ◌⊎◌, ℕ, ◌+◌, ◌-◌, ◌/◌, ◌%◌, ◌^◌, List, [], ◌∷◌, ◌++◌, length, map, filter, Bool, cond, not, ◌&&◌, ◌||◌, ◌==◌, Contains, Option, Some, true, false}
-use Rattle.atomic_table.specs.Table.{Me, rest}
+use Rattle.std.specs.Prelude.{◌≡◌, ◌≢◌, ◌⊎◌, ℕ, ◌+◌, ◌-◌, ◌/◌, ◌%◌, ◌^◌, List, [], ◌∷◌, ◌++◌, length, map, filter, slice_index, Bool, cond, not, ◌&&◌, ◌||◌, ◌==◌, Contains, Option, Some, true, false}
+use Rattle.atomic_table.specs.Table.{State, Me, rest, Seen}
 use Rattle.atomic_table.specs.Seated.{TableId}
 use Rattle.atomic_table.specs.declared.shared.Seat.{Seat}
 use Rattle.rdb_base.specs.declared.chronicle.Chronicle.{Ghosts}
@@ -63,8 +63,19 @@ module _ {T : Type 0} where
   abbrev pub Stops : ℕ → Mine T → Mine T → Type 0
   Stops client me after = after ≡ (knowing me.0 client, me.1)
 
+  -- This was found in the client's word, in a table of which this holds and of what the pass knows after the look.
+  pub record Finds (fits : State (Option T) (View T) → View T → Type 0) (client found : ℕ) (view : View T) : Type 0 where
+    pub table : State (Option T) (View T)
+    pub fit : fits table view
+    pub word : slice_index table.words (2 + client) ≡ found
+
+  -- what holds of a table and of the view that this seat has there, as the rule is kept
+  abbrev pub AllowsSight : (State (Option T) (View T) → Type 0) → ℕ → (State (Option T) (View T) → View T → Type 0) → Type 0
+  AllowsSight rule id fits = (table : State (Option T) (View T)) (view : View T) → Seen rule id view table → fits table view
+
   -- the client's word was looked at: 1 says that it has stopped, which a pass that owns its part knows already
-  pub record Sees (client : ℕ) (me : Mine T) (found : ℕ) (after : Mine T) : Type 0 where
+  pub record Sees (fits : State (Option T) (View T) → View T → Type 0) (client : ℕ) (me : Mine T) (found : ℕ) (after : Mine T) : Type 0 where
+    pub finds : Finds fits client found after.0
     pub yes : found ≡ 1 → after ≡ (knowing me.0 client, me.1)
     pub no : found ≢ 1 → after ≡ me
     pub known : Contains me.0.stopped client → found ≡ 1

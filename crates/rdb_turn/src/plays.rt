@@ -5,6 +5,7 @@ ghost use Rattle.rdb_turn.specs.Steps.{Draws, Looks, Raises, Releases, Fronts, K
 use crate::view::View;
 use atomic_table::{Join, Play, Split};
 use rdb_base::chronicle::Chronicle;
+use std::marker::{Brand, PhantomData};
 
 /// Draws a ticket.
 pub(crate) struct Draw;
@@ -69,11 +70,24 @@ impl<T> Play<Option<T>, View<T>> for Stop {
     ghost then = { λ step me _ after. Stops (step.word - 2) me after };
 }
 
-/// Looks at the word of a client.
-pub(crate) struct See;
+/// What holds of the table at a look and of what the pass then knows, for the proof alone. A call at `Brand` picks it.
+pub(crate) trait Sight<S, V> {
+    ghost use Rattle.atomic_table.specs.Table.{State};
 
-impl<T> Play<Option<T>, View<T>> for See {
-    ghost then = { λ step me found after. Sees (step.word - 2) me found after };
+    ghost fits: { State S V → V → Type 0 };
+}
+
+impl<S, V> Sight<S, V> for Brand {
+    ghost fits = { λ _ _. Unit {0} };
+}
+
+/// Looks at the word of a client.
+pub(crate) struct See<K> {
+    marker: PhantomData<K>,
+}
+
+impl<T, K: Sight<Option<T>, View<T>>> Play<Option<T>, View<T>> for See<K> {
+    ghost then = { λ step me found after. Sees K.fits (step.word - 2) me found after };
 }
 
 /// One pass becomes two.

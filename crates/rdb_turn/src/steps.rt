@@ -1,14 +1,18 @@
 //! One function for each kind of step on the lock's words and its slot. What a step tells is said of the pass's view.
 ghost use Rattle.std.specs.Prelude.{◌≡◌, ℕ, ◌+◌, ◌<◌, ◌≤◌, [], ◌∷◌, Some, None, true, length};
 ghost use Rattle.rdb_turn.specs.declared.view.Stand.TheVariants.{Away, Waits};
-ghost use Rattle.rdb_turn.specs.Rule.{OwnsSlot, IsClient};
-ghost use Rattle.rdb_turn.specs.Steps.{IsAt, IsSamePlace, MayRaise, MayRelease, Draws, Looks, Raises, Releases, Fronts, KeepsFirst, KeepsSecond, SawTwo, Settles, Marks, Stops, Sees, half_kept, half_given, part_kept, part_given, both_views};
+ghost use Rattle.atomic_table.specs.Table.{Seen};
+ghost use Rattle.rdb_turn.specs.Rule.{OwnsSlot, IsClient, Keeps};
+ghost use Rattle.rdb_turn.specs.Steps.{IsAt, IsSamePlace, MayRaise, MayRelease, Draws, Looks, Raises, Releases, Fronts, KeepsFirst, KeepsSecond, SawTwo, Settles, Marks, Stops, AllowsSight, Sees, half_kept, half_given, part_kept, part_given, both_views};
 
 use crate::plays::{
-    Both, Draw, Front, Halves, KeepFirst, KeepSecond, Look, Mark, Parts, Raise, Release, See, Stop,
+    Both, Draw, Front, Halves, KeepFirst, KeepSecond, Look, Mark, Parts, Raise, Release, See,
+    Sight, Stop,
 };
 use crate::rule::{Board, Place};
+use crate::view::View;
 use rdb_base::chronicle::Chronicle;
+use std::marker::Brand;
 
 /// The word that counts the tickets drawn.
 pub(crate) const TICKET: usize = 0;
@@ -193,12 +197,27 @@ pub(crate) fn stop<T: Chronicle>(board: &Board<T>, place: &mut Place<T>, client:
     board.store::<Stop>(place, FRONT + client, STOPPED);
 }
 
-/// Looks whether a client has stopped.
+/// Looks at the word of a client, in a table of which `K` tells.
+fn see_in<T: Chronicle, K: Sight<Option<T>, View<T>>>(
+    board: &Board<T>,
+    place: &mut Place<T>,
+    client: usize,
+) -> u64
+    requires table { IsAt board.now.table_id place.old }
+    requires client { IsClient client }
+    requires sight { AllowsSight (Keeps T.Chronicle board.now.key.made.value board.now.key.boarded) place.old.id K.fits }
+    ensures same { IsSamePlace place.old place.new }
+    ensures saw { Sees K.fits client place.old.me result place.new.me }
+{
+    board.load::<See<K>>(place, FRONT + client)
+}
+
+/// Looks whether a client has stopped, in a table that keeps the rule.
 pub(crate) fn see<T: Chronicle>(board: &Board<T>, place: &mut Place<T>, client: usize) -> u64
     requires table { IsAt board.now.table_id place.old }
     requires client { IsClient client }
     ensures same { IsSamePlace place.old place.new }
-    ensures saw { Sees client place.old.me result place.new.me }
+    ensures saw { Sees (λ table view. Seen (Keeps T.Chronicle board.now.key.made.value board.now.key.boarded) place.old.id view table) client place.old.me result place.new.me }
 {
-    board.load::<See>(place, FRONT + client)
+    see_in::<T, Brand>(board, place, client)
 }

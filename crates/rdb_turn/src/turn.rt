@@ -40,7 +40,7 @@ impl<T: Chronicle> Turn<T> {
     ghost use mathlib.Core.List.{IsPrefix};
     ghost use Rattle.rdb_turn.specs.Rule.{IsClient, Owns, OwnsSlot, KeepsPart};
     ghost use Rattle.rdb_turn.specs.Steps.{left_in, without, only};
-    ghost use Rattle.rdb_turn.specs.Passes.{known, seen, founder, HasMetAll, IsPassOf, base_of, is_boarded, EndsServed, EndsOut};
+    ghost use Rattle.rdb_turn.specs.Passes.{known, seen, founder, HasMetAll, IsPassOf, base_of, is_boarded, SawStopped, IsStoppedInAll, SawRunning, EndsServed, EndsOut};
 
     /// Lays out a lock, with or without a board.
     fn lay(alloc: Global, value: T, boarded: bool) -> Result<(Turn<T>, Pass<T>), NoMemory>
@@ -259,11 +259,16 @@ impl<T: Chronicle> Turn<T> {
 
     /// Looks whether a client has stopped, which the pass then knows. It waits for nobody.
     /// It is true where the pass knows it already, and of a client whose part the pass owns only then.
+    /// A table that the lock may have is one that keeps the rule, and in which the pass knows what it knows after the look.
+    /// Where it is true, the client's word says so in some such table and in each, and every pass there that owns the client's part knows it. Where it is false, the word doesn't say so in some such table.
     pub fn stopped(&self, pass: &mut Pass<T>, client: u32) -> bool
         requires pass { IsPassOf T.Chronicle self.now pass.old }
         requires client { IsClient client }
         ensures seen_before { Contains (known pass.old).stopped client → result ≡ true }
         ensures own { OwnsSlot (known pass.old).owned client → result ≡ true → Contains (known pass.old).stopped client }
+        ensures true_of_owner { result ≡ true → SawStopped T.Chronicle self.now pass.new client }
+        ensures true_in_all { result ≡ true → IsStoppedInAll T.Chronicle self.now pass.new client }
+        ensures false_of_word { result ≡ false → SawRunning T.Chronicle self.now pass.new client }
         ensures known { MatchBool result (known pass.new ≡ record (known pass.old) { stopped = client ∷ (known pass.old).stopped }) (known pass.new ≡ known pass.old) }
         ensures pass { IsPassOf T.Chronicle self.now pass.new }
     {
