@@ -5,3 +5,11 @@ pub mod PlaceLemmas
 pub mod FreeLemmas
 pub mod UntakenLemmas
 pub mod OverlayLemmas
+pub mod PlainLemmas
+pub mod PlainPut
+pub mod PlainRemove
+pub mod PlainWalk
+pub mod PlainOver
+pub mod CallerLemmas
+pub mod KeyLemmas
+pub mod SwapLemmas

@@ -8,3 +8,7 @@ pub mod References
 pub mod Words
 pub mod Memory
 pub mod Index
+pub mod PlainList
+pub mod PlainLaws
+pub mod IndexCaller
+pub mod OneKey

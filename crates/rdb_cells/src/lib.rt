@@ -5,14 +5,22 @@
 mod cells;
 mod free;
 mod index;
+#[cfg(test)]
+mod index_caller;
+#[cfg(test)]
+mod index_tests;
 mod keys;
 mod kind;
 mod laws;
 mod log;
 mod memory;
+#[cfg(test)]
+mod one_key;
 mod overlay;
 mod pairs;
 mod places;
+#[cfg(test)]
+mod plain_list;
 mod plan;
 mod reference;
 mod settled;
