@@ -16,6 +16,8 @@ mod operation_reader;
 mod progress;
 mod schedule_reader;
 mod script_reader;
+#[cfg(test)]
+mod script_tests;
 mod statement;
 mod statement_reader;
 mod stream;
