@@ -4,6 +4,8 @@
 pub mod check;
 pub mod command_line;
 mod decimal;
+#[cfg(test)]
+mod generated_job_tests;
 mod halt;
 mod part_reading;
 mod plain_job;
