@@ -3,6 +3,8 @@
 
 pub mod check;
 pub mod command_line;
+#[cfg(test)]
+mod generated_job_tests;
 mod halt;
 mod part_reading;
 mod plain_job;
