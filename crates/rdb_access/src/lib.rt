@@ -4,6 +4,7 @@
 pub mod accessors;
 mod decode;
 pub mod encode;
+mod laws;
 mod places;
 mod read;
 #[cfg(test)]
@@ -11,3 +12,5 @@ mod tests;
 pub mod types;
 mod walk;
 mod write;
+
+pub use laws::encoding_has_the_row_length;
