@@ -1,6 +1,7 @@
 -- Each kind of step keeps the rule of the turn lock.
 use Rattle.std.proofs.Common.{◌≡◌, ◌≢◌, ℕ, ◌+◌, ◌-◌, ◌/◌, ◌%◌, ◌^◌, ◌<◌, ◌≤◌, ◌⊎◌, zero, suc, Bool, true, false, eqb, cond, List, [], ◌∷◌, ◌++◌, length, get_or, set, refl, ap, sym, ◌∙◌, subst, inl, inr, ⊎_elim, arith, Option, Some, None, sum_by, Contains, eq-eqb, ne_eqb, replicate, length-set, get_or-set_same, get_or-set_other}
 use Rattle.std.proofs.Math.Nat.{mod-add-mod}
+use Rattle.std.proofs.lemmas.List.{set-append_left, set-append_right, get_or_append_left}
 use Rattle.std.proofs.lemmas.List.Sums.{sum_by_push}
 use Rattle.std.proofs.lemmas.List.Elements.{Contains-append_left, Contains-append_right, Contains-append_cases}
 use mathlib.Core.Logic.{dite}
@@ -66,12 +67,25 @@ set_there [] i a b e = absurd (some-ne-none a (sym e))
 set_there (x ∷ xs) zero a b e = refl
 set_there (x ∷ xs) (suc i) a b e = set_there xs i a b e
 
--- the board lies behind three other words
-set_board : (a b d : ℕ) (board : List ℕ) (client x : ℕ) → 1 ≤ client → set (a ∷ b ∷ d ∷ board) (2 + client) x ≡ a ∷ b ∷ d ∷ set board (client - 1) x
-set_board a b d board client x low = let at : 2 + client ≡ suc (suc (suc (client - 1))) = omega arith in ap (λ (i : ℕ). set (a ∷ b ∷ d ∷ board) i x) at
+-- the board lies behind three other words, and the bells behind the board
+set_board : (a b d : ℕ) (board bells : List ℕ) (client x : ℕ) → length board ≡ 16 → IsClient client → set (a ∷ b ∷ d ∷ (board ++ bells)) (2 + client) x ≡ a ∷ b ∷ d ∷ (set board (client - 1) x ++ bells)
+set_board a b d board bells client x wide is =
+    let at : 2 + client ≡ suc (suc (suc (client - 1))) = omega (arith, is.0) in
+    let low : client - 1 < length board = omega (arith, is.0, is.1, wide) in
+    ap (λ (i : ℕ). set (a ∷ b ∷ d ∷ (board ++ bells)) i x) at ∙ ap (λ (ws : List ℕ). a ∷ b ∷ d ∷ ws) (set-append_left board bells (client - 1) x low)
 
-get_board : (a b d : ℕ) (board : List ℕ) (client : ℕ) → 1 ≤ client → get_or (a ∷ b ∷ d ∷ board) (2 + client) 0 ≡ get_or board (client - 1) 0
-get_board a b d board client low = let at : 2 + client ≡ suc (suc (suc (client - 1))) = omega arith in ap (λ (i : ℕ). get_or (a ∷ b ∷ d ∷ board) i 0) at
+get_board : (a b d : ℕ) (board bells : List ℕ) (client : ℕ) → length board ≡ 16 → IsClient client → get_or (a ∷ b ∷ d ∷ (board ++ bells)) (2 + client) 0 ≡ get_or board (client - 1) 0
+get_board a b d board bells client wide is =
+    let at : 2 + client ≡ suc (suc (suc (client - 1))) = omega (arith, is.0) in
+    let low : client - 1 < length board = omega (arith, is.0, is.1, wide) in
+    ap (λ (i : ℕ). get_or (a ∷ b ∷ d ∷ (board ++ bells)) i 0) at ∙ get_or_append_left board bells 0 (client - 1) low
+
+set_bell : (a b d : ℕ) (board bells : List ℕ) (word x : ℕ) → length board ≡ 16 → 19 ≤ word → set (a ∷ b ∷ d ∷ (board ++ bells)) word x ≡ a ∷ b ∷ d ∷ (board ++ set bells (word - 19) x)
+set_bell a b d board bells word x wide behind =
+    let at : word ≡ suc (suc (suc (word - 3))) = omega (arith, behind) in
+    let bell : word - 3 - 16 ≡ word - 19 = omega (arith, behind) in
+    ap (λ (i : ℕ). set (a ∷ b ∷ d ∷ (board ++ bells)) i x) at
+    ∙ (ap (λ (ws : List ℕ). a ∷ b ∷ d ∷ ws) (set-append_right board bells 16 (word - 3) x wide (omega (arith, behind))) ∙ ap (λ (i : ℕ). a ∷ b ∷ d ∷ (board ++ set bells i x)) bell)
 
 -- a word that is written says that its client has stopped, and no other changes
 stop_here : (board : List ℕ) (client : ℕ) → length board ≡ 16 → IsClient client → IsStopped (set board (client - 1) 1) client
@@ -149,9 +163,11 @@ module _ {T E B P : Type 0} (c : Ghosts T E B P) (made : T) (boarded : Bool) whe
           owner = put r.owner r.drawn id;
           now = r.now;
           board = r.board;
+          bells = r.bells;
           holder = r.holder;
           wide = r.wide;
-          words = ap (λ (ws : List ℕ). set ws 0 ((get_or ws 0 0 + 1) % 2 ^ 64)) r.words ∙ ap (λ (n : ℕ). n ∷ r.served % 2 ^ 64 ∷ length (c.history r.now) ∷ r.board) (mod-add-mod r.drawn (2 ^ 64) 1);
+          hung = r.hung;
+          words = ap (λ (ws : List ℕ). set ws 0 ((get_or ws 0 0 + 1) % 2 ^ 64)) r.words ∙ ap (λ (n : ℕ). n ∷ r.served % 2 ^ 64 ∷ length (c.history r.now) ∷ (r.board ++ r.bells)) (mod-add-mod r.drawn (2 ^ 64) 1);
           shares = omega (arith, shares, r.shares);
           out = omega (arith, out, none_out, r.out);
           follows = r.follows;
@@ -205,8 +221,10 @@ module _ {T E B P : Type 0} (c : Ghosts T E B P) (made : T) (boarded : Bool) whe
         owner = r.owner;
         now = r.now;
         board = r.board;
+        bells = r.bells;
         holder = r.holder;
         wide = r.wide;
+        hung = r.hung;
         words = same ∙ r.words;
         shares = omega (arith, shares, shares_same, r.shares);
         out = omega (arith, out, out_same, r.out);
@@ -257,8 +275,10 @@ module _ {T E B P : Type 0} (c : Ghosts T E B P) (made : T) (boarded : Bool) whe
             owner = r.owner;
             now = r.now;
             board = r.board;
+            bells = r.bells;
             holder = r.holder;
             wide = r.wide;
+            hung = r.hung;
             words = set-get_or s.words 1 0 ∙ r.words;
             shares = omega (arith, shares, r.shares);
             out = omega (arith, out, one_out, r.out);
@@ -363,9 +383,11 @@ module _ {T E B P : Type 0} (c : Ghosts T E B P) (made : T) (boarded : Bool) whe
             owner = r.owner;
             now = value;
             board = r.board;
+            bells = r.bells;
             holder = r.holder;
             wide = r.wide;
-            words = ap (λ (ws : List ℕ). set ws 2 length_of) r.words ∙ ap (λ (l : ℕ). r.drawn % 2 ^ 64 ∷ r.served % 2 ^ 64 ∷ l ∷ r.board) long;
+            hung = r.hung;
+            words = ap (λ (ws : List ℕ). set ws 2 length_of) r.words ∙ ap (λ (l : ℕ). r.drawn % 2 ^ 64 ∷ r.served % 2 ^ 64 ∷ l ∷ (r.board ++ r.bells)) long;
             shares = omega (arith, shares, r.shares);
             out = omega (arith, out, r.out);
             follows = follows_further c made r.now value r.follows may.follows;
@@ -409,9 +431,11 @@ module _ {T E B P : Type 0} (c : Ghosts T E B P) (made : T) (boarded : Bool) whe
             owner = r.owner;
             now = r.now;
             board = r.board;
+            bells = r.bells;
             holder = r.holder;
             wide = r.wide;
-            words = ap (λ (ws : List ℕ). set ws 1 next) r.words ∙ ap (λ (l : ℕ). r.drawn % 2 ^ 64 ∷ l ∷ length (c.history r.now) ∷ r.board) (next_is ∙ ap (λ (i : ℕ). (i + 1) % 2 ^ 64) st.0);
+            hung = r.hung;
+            words = ap (λ (ws : List ℕ). set ws 1 next) r.words ∙ ap (λ (l : ℕ). r.drawn % 2 ^ 64 ∷ l ∷ length (c.history r.now) ∷ (r.board ++ r.bells)) (next_is ∙ ap (λ (i : ℕ). (i + 1) % 2 ^ 64) st.0);
             shares = omega (arith, shares, r.shares);
             out = omega (arith, out, one_out, r.out);
             follows = r.follows;
@@ -486,6 +510,35 @@ module _ {T E B P : Type 0} (c : Ghosts T E B P) (made : T) (boarded : Bool) whe
           refl,
         )
 
+    -- a bell is rung, and nothing else changes
+    pub rings : (word : ℕ) → 19 ≤ word → Allows Rule slots id me word (λ n. (n + 1) % 2 ^ 64) (λ _ after. after ≡ me)
+    rings word behind s r count at low =
+        let x = (get_or s.words word 0 + 1) % 2 ^ 64 in
+        let same : set s.views id me.0 ≡ s.views = set_again s.views id me.0 at in (
+          me.0,
+          keeps,
+          tt,
+          subst (λ (vs : List (View T)). Rule record { words = set s.words word x; homes = s.homes; views = vs }) (sym same) record {
+            drawn = r.drawn;
+            served = r.served;
+            owner = r.owner;
+            now = r.now;
+            board = r.board;
+            bells = set r.bells (word - 19) x;
+            holder = r.holder;
+            wide = r.wide;
+            hung = length-set r.bells (word - 19) x ∙ r.hung;
+            words = ap (λ (ws : List ℕ). set ws word x) r.words ∙ set_bell (r.drawn % 2 ^ 64) (r.served % 2 ^ 64) (length (c.history r.now)) r.board r.bells word x r.wide behind;
+            shares = r.shares;
+            out = r.out;
+            follows = r.follows;
+            told = r.told;
+            knows = r.knows;
+            home = r.home;
+          },
+          refl,
+        )
+
     -- the word of a client, as it is stored
     pub stops : (word client : ℕ) → word ≡ 2 + client → IsClient client → OwnsSlot me.0.owned client → Allows Rule slots id me word (λ _. 1) (λ _ after. Stops client me after)
     stops word client is_word is owns s r count at low =
@@ -506,9 +559,11 @@ module _ {T E B P : Type 0} (c : Ghosts T E B P) (made : T) (boarded : Bool) whe
             owner = r.owner;
             now = r.now;
             board = next;
+            bells = r.bells;
             holder = r.holder;
             wide = length-set r.board (client - 1) 1 ∙ r.wide;
-            words = ap (λ (i : ℕ). set s.words i 1) is_word ∙ (ap (λ (ws : List ℕ). set ws (2 + client) 1) r.words ∙ set_board (r.drawn % 2 ^ 64) (r.served % 2 ^ 64) (length (c.history r.now)) r.board client 1 is.0);
+            hung = r.hung;
+            words = ap (λ (i : ℕ). set s.words i 1) is_word ∙ (ap (λ (ws : List ℕ). set ws (2 + client) 1) r.words ∙ set_board (r.drawn % 2 ^ 64) (r.served % 2 ^ 64) (length (c.history r.now)) r.board r.bells client 1 r.wide is);
             shares = omega (arith, shares, r.shares);
             out = omega (arith, out, r.out);
             follows = r.follows;
@@ -562,7 +617,7 @@ module _ {T E B P : Type 0} (c : Ghosts T E B P) (made : T) (boarded : Bool) whe
         → (w : View T) × (a : Act (Option T)) × Valid s.homes me.1 a × Rule (stepped s word (get_or s.words word 0) id me.1 w a) × Sees fits client me (get_or s.words word 0) (w, carried_after me.1 a)
     sees_at fits shows word client is_word is s r at (yes found) =
         let k = r.knows id me.0 at in
-        let word_is : get_or s.words word 0 ≡ get_or r.board (client - 1) 0 = ap (λ (i : ℕ). get_or s.words i 0) is_word ∙ (ap (λ (ws : List ℕ). get_or ws (2 + client) 0) r.words ∙ get_board (r.drawn % 2 ^ 64) (r.served % 2 ^ 64) (length (c.history r.now)) r.board client is.0) in
+        let word_is : get_or s.words word 0 ≡ get_or r.board (client - 1) 0 = ap (λ (i : ℕ). get_or s.words i 0) is_word ∙ (ap (λ (ws : List ℕ). get_or ws (2 + client) 0) r.words ∙ get_board (r.drawn % 2 ^ 64) (r.served % 2 ^ 64) (length (c.history r.now)) r.board r.bells client r.wide is) in
         let stopped : IsStopped r.board client = sym word_is ∙ found in
         let after : Rule record { words = s.words; homes = s.homes; views = set s.views id (knowing me.0 client) } = unmoved s r id me.0 (knowing me.0 client) s.words at refl refl refl k.follows k.stands (sees_yes s r client is at stopped) in (
           knowing me.0 client,
@@ -579,7 +634,7 @@ module _ {T E B P : Type 0} (c : Ghosts T E B P) (made : T) (boarded : Bool) whe
         )
     sees_at fits shows word client is_word is s r at (no other) =
         let k = r.knows id me.0 at in
-        let word_is : get_or s.words word 0 ≡ get_or r.board (client - 1) 0 = ap (λ (i : ℕ). get_or s.words i 0) is_word ∙ (ap (λ (ws : List ℕ). get_or ws (2 + client) 0) r.words ∙ get_board (r.drawn % 2 ^ 64) (r.served % 2 ^ 64) (length (c.history r.now)) r.board client is.0) in (
+        let word_is : get_or s.words word 0 ≡ get_or r.board (client - 1) 0 = ap (λ (i : ℕ). get_or s.words i 0) is_word ∙ (ap (λ (ws : List ℕ). get_or ws (2 + client) 0) r.words ∙ get_board (r.drawn % 2 ^ 64) (r.served % 2 ^ 64) (length (c.history r.now)) r.board r.bells client r.wide is) in (
           me.0,
           keeps,
           tt,
@@ -607,7 +662,7 @@ module _ {T E B P : Type 0} (c : Ghosts T E B P) (made : T) (boarded : Bool) whe
 
   -- what stands in the word of a client stands on the board
   pub on_board : (s : St) (r : Rule s) (client found : ℕ) → IsClient client → get_or s.words (2 + client) 0 ≡ found → get_or r.board (client - 1) 0 ≡ found
-  on_board s r client found is at = sym (get_board (r.drawn % 2 ^ 64) (r.served % 2 ^ 64) (length (c.history r.now)) r.board client is.0) ∙ (ap (λ (ws : List ℕ). get_or ws (2 + client) 0) (sym r.words) ∙ at)
+  on_board s r client found is at = sym (get_board (r.drawn % 2 ^ 64) (r.served % 2 ^ 64) (length (c.history r.now)) r.board r.bells client r.wide is) ∙ (ap (λ (ws : List ℕ). get_or ws (2 + client) 0) (sym r.words) ∙ at)
 
   -- a split keeps the rule where both passes know what is so, and each part goes to one of them
   cut_in_two : (s : St) (r : Rule s) (id : ℕ) (v kept given : View T) (holder : ℕ → ℕ) → get_elem? s.views id ≡ some v → v.stand ≡ Away → kept.stand ≡ Away → given.stand ≡ Away → kept.seen ≡ v.seen → given.seen ≡ v.seen
@@ -634,8 +689,10 @@ module _ {T E B P : Type 0} (c : Ghosts T E B P) (made : T) (boarded : Bool) whe
         owner = r.owner;
         now = r.now;
         board = r.board;
+        bells = r.bells;
         holder = holder;
         wide = r.wide;
+        hung = r.hung;
         words = r.words;
         shares = omega (arith, shares, all, r.shares, sum_by_push shares_of vs given);
         out = omega (arith, out, none_out, none_out', none_out'', r.out, sum_by_push out_of vs given);
@@ -755,8 +812,10 @@ module _ {T E B P : Type 0} (c : Ghosts T E B P) (made : T) (boarded : Bool) whe
         owner = r.owner;
         now = r.now;
         board = r.board;
+        bells = r.bells;
         holder = holder;
         wide = r.wide;
+        hung = r.hung;
         words = r.words;
         shares = omega (arith, shares, shares', r.shares);
         out = omega (arith, out, out', none_out', r.out);
@@ -809,7 +868,7 @@ module _ {T E B P : Type 0} (c : Ghosts T E B P) (made : T) (boarded : Bool) whe
       → (now : T) × (get_elem? xs 0 ≡ some (Some now)) × Follows c made now × FollowsAll c v.seen now
   closes ws xs id v ticket serving (s, (r, at), words, count, values) first second same =
       let few = few_out s r in
-      let here : ws ≡ r.drawn % 2 ^ 64 ∷ r.served % 2 ^ 64 ∷ length (c.history r.now) ∷ r.board = sym words ∙ r.words in
+      let here : ws ≡ r.drawn % 2 ^ 64 ∷ r.served % 2 ^ 64 ∷ length (c.history r.now) ∷ (r.board ++ r.bells) = sym words ∙ r.words in
       let drawn_is : r.drawn % 2 ^ 64 ≡ ticket = some-injective _ _ (ap (λ (l : List ℕ). get_elem? l 0) (sym here) ∙ first) in
       let served_is : r.served % 2 ^ 64 ≡ serving = some-injective _ _ (ap (λ (l : List ℕ). get_elem? l 1) (sym here) ∙ second) in
       let done : r.served ≡ r.drawn = one_turn r.served r.drawn (2 ^ 64) (omega (arith, r.out)) few (served_is ∙ (sym same ∙ sym drawn_is)) in
@@ -819,16 +878,18 @@ module _ {T E B P : Type 0} (c : Ghosts T E B P) (made : T) (boarded : Bool) whe
 
   -- the one who makes the turn is the only one
   pub opens : (length_of : ℕ) → length_of ≡ length (c.history made) → (boarded ≡ true → (client : ℕ) → IsClient client → ¬ Contains (c.gone made) client)
-      → Rule (opening (0 ∷ 0 ∷ length_of ∷ clear) (Some made ∷ []) (first_view c made boarded))
+      → Rule (opening (0 ∷ 0 ∷ length_of ∷ (clear ++ clear)) (Some made ∷ []) (first_view c made boarded))
   opens length_of long alive = record {
     drawn = 0;
     served = 0;
     owner = λ _. 0;
     now = made;
     board = clear;
+    bells = clear;
     holder = λ _. 0;
     wide = refl;
-    words = ap (λ (l : ℕ). 0 ∷ 0 ∷ l ∷ clear) long;
+    hung = refl;
+    words = ap (λ (l : ℕ). 0 ∷ 0 ∷ l ∷ (clear ++ clear)) long;
     shares = refl;
     out = refl;
     follows = follows_itself c made;

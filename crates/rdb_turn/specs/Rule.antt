@@ -1,7 +1,7 @@
 -- What a pass knows, and the rule that the lock's words, its slot and all passes keep.
--- Words: the tickets drawn, the tickets served, both modulo 2^64, the published length, and 16 words of the board, which are 1 where that client has stopped.
+-- Words: the tickets drawn, the tickets served, both modulo 2^64, the published length, 16 words of the board, which are 1 where that client has stopped, and 16 bells, which may hold any number.
 -- The one slot has the value.
-use Rattle.std.specs.Prelude.{◌≡◌, ◌⊎◌, ℕ, suc, zero, ◌+◌, ◌-◌, ◌%◌, ◌^◌, ◌<◌, ◌≤◌, List, [], ◌∷◌, length, slice_index, sum_by, Contains, Option, Some, Bool, true, false}
+use Rattle.std.specs.Prelude.{◌≡◌, ◌⊎◌, ℕ, suc, zero, ◌+◌, ◌-◌, ◌%◌, ◌^◌, ◌<◌, ◌≤◌, List, [], ◌∷◌, ◌++◌, length, slice_index, sum_by, Contains, Option, Some, Bool, true, false}
 use mathlib.Core.Option.{some}
 use mathlib.Core.List.{IsPrefix}
 use lib.ListN.{get_elem?}
@@ -109,9 +109,11 @@ module _ {T E B P : Type 0} (c : Ghosts T E B P) where
     pub owner : ℕ → ℕ
     pub now : T
     pub board : List ℕ
+    pub bells : List ℕ
     pub holder : ℕ → ℕ
     pub wide : length board ≡ 16
-    pub words : s.words ≡ drawn % 2 ^ 64 ∷ served % 2 ^ 64 ∷ length (c.history now) ∷ board
+    pub hung : length bells ≡ 16
+    pub words : s.words ≡ drawn % 2 ^ 64 ∷ served % 2 ^ 64 ∷ length (c.history now) ∷ (board ++ bells)
     pub shares : sum_by shares_of s.views ≡ all_shares
     pub out : drawn ≡ served + sum_by out_of s.views
     pub follows : Follows made now

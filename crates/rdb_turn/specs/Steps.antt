@@ -81,9 +81,9 @@ module _ {T : Type 0} where
     pub known : Contains me.0.stopped client → found ≡ 1
     pub own : OwnsSlot me.0.owned client → found ≡ 1 → Contains me.0.stopped client
 
-  -- the seat is one of a turn lock's table, which has 19 words and a slot
+  -- the seat is one of a turn lock's table, which has 35 words and a slot
   abbrev pub IsAt : TableId → Seat (Option T) (View T) → Type 0
-  IsAt z place = (place.table_id ≡ z) × (z.words ≡ 19) × (z.slots ≡ 1)
+  IsAt z place = (place.table_id ≡ z) × (z.words ≡ 35) × (z.slots ≡ 1)
 
   -- the seat is the same, whatever it knows
   abbrev pub IsSamePlace : Seat (Option T) (View T) → Seat (Option T) (View T) → Type 0

@@ -1,5 +1,5 @@
 //! What each kind of step tells the one who steps.
-ghost use Rattle.std.specs.Prelude.{◌-◌};
+ghost use Rattle.std.specs.Prelude.{◌≡◌, ◌-◌};
 ghost use Rattle.rdb_turn.specs.Steps.{Draws, Looks, Raises, Releases, Fronts, KeepsFirst, KeepsSecond, Marks, Stops, Sees, half_kept, half_given, part_kept, part_given, both_views, spent_view};
 
 use crate::view::View;
@@ -61,6 +61,13 @@ pub(crate) struct Mark;
 
 impl<T> Play<Option<T>, View<T>> for Mark {
     ghost then = { λ step me _ after. Marks step.first me after };
+}
+
+/// Rings a bell, which changes nothing that a pass knows.
+pub(crate) struct Ring;
+
+impl<T> Play<Option<T>, View<T>> for Ring {
+    ghost then = { λ _ me _ after. after ≡ me };
 }
 
 /// Writes the word of a client.

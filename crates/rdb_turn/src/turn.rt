@@ -4,8 +4,8 @@ ghost use Rattle.std.specs.Prelude.{◌≡◌, ℕ, ◌+◌, ◌-◌, ◌/◌, �
 use crate::pass::Pass;
 use crate::rule::InTurn;
 use crate::steps::{
-    SERVING, SLOT, TICKET, cut_off, draw, halve, look_front, mark, put, raise, release, see,
-    settle, stop, take, unite,
+    FRONT, SERVING, SLOT, TICKET, WORDS, cut_off, draw, halve, look_front, mark, put, raise,
+    release, see, settle, stop, take, unite,
 };
 use crate::view::{Founding, View};
 use crate::waiting::{wait_for, wake};
@@ -32,7 +32,7 @@ pub struct TurnOut {
 pub struct Turn<T: Chronicle> {
     table: Table<Option<T>, View<T>, Founding<T>, InTurn, Global>,
     boarded: bool,
-    ghost sized: { (table.shared.table_id.words ≡ 19) × (table.shared.table_id.slots ≡ 1) },
+    ghost sized: { (table.shared.table_id.words ≡ 35) × (table.shared.table_id.slots ≡ 1) },
     ghost founded: { table.shared.key.boarded ≡ boarded },
 }
 
@@ -56,7 +56,8 @@ impl<T: Chronicle> Turn<T> {
         let length = value.length();
         let mut slots = Vec::with_capacity(alloc, 1)?;
         slots.push(Some(value))?;
-        let words = [0, 0, length, 0, 0, 0, 0, 0, 0, 0, 0, 0, 0, 0, 0, 0, 0, 0, 0];
+        let mut words = [0; WORDS];
+        words[FRONT] = length;
         let Ok((table, place)) = Table::new(alloc, &words, slots, &founding) else {
             return Err(AllocError);
         };
@@ -142,7 +143,7 @@ impl<T: Chronicle> Turn<T> {
         put(board, &mut pass.place, value);
         raise(board, &mut pass.place, length);
         release(board, &mut pass.place, next);
-        wake(board, next);
+        wake(board, &mut pass.place, next);
         pass.length = length;
     }
 

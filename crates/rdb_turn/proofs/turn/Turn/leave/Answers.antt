@@ -25,9 +25,9 @@ returns-clause-pass g c =
     let k = c.requires.pass in
     let v = c.args.pass.now.place.me.0 in
     let was = raised g.T.Chronicle v c.args.value c.put.new.place.me c.raise.new.place.me c.put.ensures.given c.raise.ensures.raised in
-    let after : ◌≡◌ {A = Mine g.row.T.Denot} c.release.new.place.me (standing (published g.T.Chronicle v c.args.value) Away, []) = c.release.ensures.released ∙ ap (λ (m : Mine g.row.T.Denot). (standing m.0 Away, rest m.1)) was in
-    let shares : c.release.new.place.me.0.shares ≡ v.shares = ap (λ (m : Mine g.row.T.Denot). m.0.shares) after in record {
-      table = c.release.ensures.same.0 ∙ (c.raise.ensures.same.0 ∙ (c.put.ensures.same.0 ∙ k.table));
+    let after : ◌≡◌ {A = Mine g.row.T.Denot} c.wake.new.place.me (standing (published g.T.Chronicle v c.args.value) Away, []) = c.wake.ensures.known ∙ (c.release.ensures.released ∙ ap (λ (m : Mine g.row.T.Denot). (standing m.0 Away, rest m.1)) was) in
+    let shares : c.wake.new.place.me.0.shares ≡ v.shares = ap (λ (m : Mine g.row.T.Denot). m.0.shares) after in record {
+      table = c.wake.ensures.same.0 ∙ (c.release.ensures.same.0 ∙ (c.raise.ensures.same.0 ∙ (c.put.ensures.same.0 ∙ k.table)));
       latest = c.args.value;
       counted = c.length-length.ensures;
       seen_last = ap (λ (m : Mine g.row.T.Denot). m.0.seen) after;
@@ -35,6 +35,6 @@ returns-clause-pass g c =
       boarded = ap (λ (m : Mine g.row.T.Denot). m.0.boarded) after ∙ k.boarded;
       some_share = k.some_share;
       shares = omega (arith, shares, k.shares);
-      fits = fits_as c.args.pass.now.ticket (standing (published g.T.Chronicle v c.args.value) Away, []) c.release.new.place.me (sym (ap (λ (m : Mine g.row.T.Denot). m.1) after)) (sym (ap (λ (m : Mine g.row.T.Denot). m.0.stand) after)) refl;
+      fits = fits_as c.args.pass.now.ticket (standing (published g.T.Chronicle v c.args.value) Away, []) c.wake.new.place.me (sym (ap (λ (m : Mine g.row.T.Denot). m.1) after)) (sym (ap (λ (m : Mine g.row.T.Denot). m.0.stand) after)) refl;
       inside = λ is. absurd (cc (is, ap (λ (m : Mine g.row.T.Denot). is_inside m.0.stand) after));
     }
