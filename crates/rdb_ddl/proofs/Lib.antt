@@ -9,4 +9,6 @@ pub mod Items
 pub mod Keeping
 pub mod Members
 pub mod Sorting
+pub mod Counting
 pub mod RoundTrip
+pub mod ShortTexts

@@ -28,12 +28,14 @@ use Rattle.rdb_ddl.specs.Read.{IsRead}
 use Rattle.rdb_ddl.specs.SchemaParts.{type_part, field_parts, autoid_parts, key_part, index_parts, kind_parts, event_parts, group_parts, body_parts, class_parts, parts_of}
 use Rattle.rdb_ddl.specs.Spelled.{IsName, IsTypeSpelled, IsMemberTypeSpelled, IsFieldSpelled, IsMemberSpelled, IsSizeSpelled, IsIndexSpelled, IsKindSpelled, IsEventSpelled, IsGroupSpelled, IsClassSpelled, IsSpelled}
 use Rattle.rdb_ddl.specs.Resolved.{IsFieldPlace, IsTypeResolved, IsFieldResolved, IsIndexResolved, IsKindResolved, IsEventResolved, IsGroupResolved, IsAutoidResolved, IsClassResolved, IsResolved}
+use Rattle.rdb_ddl.specs.Limits.{IsSmallGroup, IsShortKey, IsSmallClass, IsWithinLimits}
 use Rattle.rdb_ddl.proofs.CanonicalTexts.{has_the_parts}
 use Rattle.rdb_ddl.proofs.Declaring.{Lacks, lacks_one, StartsAnew, body_is, blocks_start, any_after, declares}
 use Rattle.rdb_ddl.proofs.Shapes.{IsPlainWord, grammar_fits}
 use Rattle.rdb_ddl.proofs.Items.{Item, FieldItem, AutoidItem, IndexItem, EventItem, UpdateItem, Decl, GroupDecl, ClassDecl, key_parts, item_parts, decl_parts, IsWholeKind, IsGoodItem, IsGroupItem, IsGoodDecl, whole_of, field_gives, index_gives, event_gives, is_autoid_item, estimate_in, class_in, group_gives, class_gives, schema_in, index_end_lacks, items_lack_heads, group_items_good, decl_starts, decls_start, declares_in}
 use Rattle.rdb_ddl.proofs.Keeping.{Keeps, standing, nothing, keeps_all, breaks_none, keeps_after, weigh, none_counted, any_from_count, not_full, Counts, counts_of, field_type}
 use Rattle.rdb_ddl.proofs.Members.{ItemFine, fine_items, keeps_items}
+use Rattle.rdb_ddl.proofs.Counting.{few_indexes, few_events, short_keys}
 use Rattle.rdb_ddl.proofs.Sorting.{only_fields, only_autoids, only_indexes, only_events, sorted, sorted_parts, weight_one, all_sorted, sorted_counts, sorted_members, sorted_fine, group_found, field_found, few_fields, keys_known, update_known}
 
 -- ---- structs and classes in any order
@@ -546,11 +548,35 @@ classes_line all groups found (ClassDecl name items ∷ decls) good fine =
     let others = classes_line all groups found decls (All-tail IsGoodDecl (ClassDecl name items) decls good) (All-tail (DeclFine all) (ClassDecl name items) decls fine) in
     λ i. parts.Class name ∷ (body i ++ others i)
 
+-- ---- how many there are
+
+classes_len : (groups : List Group) (decls : List Decl) → length (flat_map (class_gives groups) decls) ≡ length (classes_in decls)
+classes_len groups [] = refl
+classes_len groups (GroupDecl other items ∷ decls) = classes_len groups decls
+classes_len groups (ClassDecl other items ∷ decls) = ap (λ (n : ℕ). suc n) (classes_len groups decls)
+
+group_small : (all : List (List ℕ)) (decl : Decl) → DeclFine all decl → All IsSmallGroup (group_gives decl)
+group_small all (GroupDecl name items) fine = one_all IsSmallGroup (record { name = name; fields = flat_map (field_gives []) items }) (let few = few_fields [] items in let le = fine.members in omega arith)
+group_small all (ClassDecl name items) fine = All-nil IsSmallGroup
+
+class_small : (all : List (List ℕ)) (groups : List Group) (decl : Decl) → DeclFine all decl → All IsSmallClass (class_gives groups decl)
+class_small all groups (GroupDecl name items) fine = All-nil IsSmallClass
+class_small all groups (ClassDecl name items) fine =
+    let lookup = λ (name : List ℕ). field_type name items in
+    let given_fields = flat_map (field_gives groups) items in
+    one_all IsSmallClass (class_in groups name items) (record {
+      fields = let few = few_fields groups items in let le = fine.0.members in omega arith;
+      indexes = let few = few_indexes given_fields items in let le = fine.0.indexes in omega arith;
+      keys = all_flat IsShortKey (index_gives given_fields) (ItemFine lookup all) (short_keys lookup all given_fields) items fine.1;
+      events = let few = few_events given_fields items in let le = fine.0.events in omega arith;
+    })
+
 -- ---- whole texts
 
 record Sound (schema : Schema) : Type 0 where
   spelled : IsSpelled schema
   resolved : IsResolved schema
+  limits : IsWithinLimits schema
   keeps : BreaksNoRule (parts_of schema)
 
 sound_in : (name : List ℕ) (decls : List Decl) → IsName name → All IsGoodDecl decls → All (DeclFine (groups_in decls)) decls → NameCounts (groups_in decls) (classes_in decls) → Sound (schema_in name decls)
@@ -566,6 +592,12 @@ sound_in name decls is good fine counts =
     record {
       spelled = record { name = is; groups = λ k d lt. (all_groups k d lt).0; classes = λ k d lt. (all_classes k d lt).0 };
       resolved = record { groups = λ k d lt. (all_groups k d lt).1; classes = λ k d lt. (all_classes k d lt).1 };
+      limits = record {
+        few_groups = few;
+        groups = all_flat IsSmallGroup group_gives (DeclFine (groups_in decls)) (group_small (groups_in decls)) decls fine;
+        few_classes = let len = classes_len groups decls in let le = counts.few_classes in omega arith;
+        classes = all_flat IsSmallClass (class_gives groups) (DeclFine (groups_in decls)) (class_small (groups_in decls) groups) decls fine;
+      };
       keeps = subst BreaksNoRule (sym line) (breaks_none (parts.Database name ∷ (flat_map decl_parts (only_groups decls) ++ flat_map decl_parts (only_classes decls))) (keeps_canonical name decls good fine counts));
     }
 
@@ -586,6 +618,9 @@ spelled text schema read = (sound text schema read).spelled
 
 pub resolved : (text : List ℕ) (schema : Schema) → IsRead text schema → IsResolved schema
 resolved text schema read = (sound text schema read).resolved
+
+pub within_limits : (text : List ℕ) (schema : Schema) → IsRead text schema → IsWithinLimits schema
+within_limits text schema read = (sound text schema read).limits
 
 pub read_again : (text : List ℕ) (schema : Schema) → IsRead text schema → IsRead (canonical schema) schema
 read_again text schema read =

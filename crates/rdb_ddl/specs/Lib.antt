@@ -8,3 +8,4 @@ pub mod Canonical
 pub mod SchemaParts
 pub mod Spelled
 pub mod Resolved
+pub mod Limits

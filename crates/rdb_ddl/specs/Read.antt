@@ -70,6 +70,10 @@ IsFaultIn text fault Unexpected = IsUnexpected text fault
 IsFaultIn text fault NoMemory = Unit {0}
 IsFaultIn text fault cause = BreaksRule text fault
 
+-- want of memory is told at line 1 and column 1
+abbrev pub IsMemoryFirst : DdlFault → Type 0
+IsMemoryFirst fault = fault.cause ≡ NoMemory → (fault.line ≡ 1) × (fault.column ≡ 1)
+
 -- the text is refused, and this is its first fault
 pub record IsRefused (text : List ℕ) (fault : DdlFault) : Type 0 where
   pub told : fault.cause ≢ NoMemory

@@ -17,15 +17,26 @@ pub struct DdlFault {
     pub cause: DdlCause,
 }
 
-impl From<AllocError> for DdlFault {
-    ghost from_gives = { λ _ fault. fault.cause ≡ NoMemory };
-
-    fn from(_error: AllocError) -> DdlFault {
+impl DdlFault {
+    /// Want of memory. It stands nowhere in a text, so its place is the first.
+    pub fn no_memory() -> DdlFault
+        ensures cause { result.cause ≡ NoMemory }
+        ensures line { result.line ≡ 1 }
+        ensures column { result.column ≡ 1 }
+    {
         DdlFault {
             line: 1,
             column: 1,
             cause: DdlCause::NoMemory,
         }
+    }
+}
+
+impl From<AllocError> for DdlFault {
+    ghost from_gives = { λ _ fault. fault.cause ≡ NoMemory };
+
+    fn from(_error: AllocError) -> DdlFault {
+        DdlFault::no_memory()
     }
 }
 

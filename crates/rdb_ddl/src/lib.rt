@@ -14,8 +14,8 @@ pub mod token;
 mod writer;
 
 pub use laws::{
-    canonical_text_has_the_parts, canonical_text_is_read_again, parts_declare_the_schema,
-    what_is_read_is_spelled,
+    canonical_text_has_the_parts, canonical_text_is_read_again, canonical_text_is_short,
+    parts_declare_the_schema, what_is_read_is_spelled, what_is_read_is_within_the_limits,
 };
 pub use reader::{one_answer, read};
 pub use writer::text;

@@ -4,7 +4,7 @@ ghost use Rattle.std.specs.Prelude.{◌≡◌, ◌≤◌, ℕ, List, length, sli
 ghost use Rattle.rdb_schema.specs.Rules.{IsFaultOf, UnlessMemory};
 ghost use Rattle.rdb_schema.specs.declared.schema.Schema.{Schema};
 ghost use Rattle.rdb_ddl.specs.declared.fault.DdlFault.{DdlFault};
-ghost use Rattle.rdb_ddl.specs.Read.{IsRead, IsRefused, IsFaultIn, IsPlaced, StandsAt, parsed_of};
+ghost use Rattle.rdb_ddl.specs.Read.{IsRead, IsRefused, IsFaultIn, IsMemoryFirst, IsPlaced, StandsAt, parsed_of};
 
 use crate::fault::DdlFault;
 use crate::parse::{Parsed, parse};
@@ -30,15 +30,18 @@ fn fault_at(text: &[u8], left: usize, cause: DdlCause) -> DdlFault
 }
 
 /// The schema of a text. Ok exactly for the texts of the grammar that break no rule; else the first fault,
-/// where one of the grammar goes before all others. The cost grows with the text.
+/// where one of the grammar goes before all others, or `NoMemory`, at line 1 and column 1. The cost grows
+/// with the text.
 pub fn read(alloc: Global, text: &[u8]) -> Result<Schema, DdlFault>
     requires { length text.now ≤ 16777216 }
     ensures read { IfOk result (IsRead text.now) }
     ensures fault { IfErr result (λ fault. IsFaultIn text.now fault fault.cause) }
+    ensures memory { IfErr result IsMemoryFirst }
 {
-    let parsed = match parse(alloc, text)? {
-        Ok(parsed) => parsed,
-        Err(refused) => return Err(fault_at(text, refused.left, DdlCause::Unexpected)),
+    let parsed = match parse(alloc, text) {
+        Ok(Ok(parsed)) => parsed,
+        Ok(Err(refused)) => return Err(fault_at(text, refused.left, DdlCause::Unexpected)),
+        Err(_) => return Err(DdlFault::no_memory()),
     };
     match resolve(alloc, &parsed.syntax) {
         Ok(schema) => Ok(schema),
@@ -53,9 +56,10 @@ fn placed(text: &[u8], parsed: &Parsed, fault: SchemaFault) -> DdlFault
     requires first { IsFaultOf parsed.now.syntax fault }
     ensures cause { result.cause ≡ fault.cause }
     ensures place { UnlessMemory fault.cause ((left : ℕ) × (slice_get parsed.now.lefts fault.at ≡ Some left) × StandsAt text.now left result) }
+    ensures memory { IsMemoryFirst result }
 {
     if fault.cause == DdlCause::NoMemory {
-        return fault_at(text, 0, DdlCause::NoMemory);
+        return DdlFault::no_memory();
     }
     fault_at(text, *parsed.lefts.at(fault.at), fault.cause)
 }

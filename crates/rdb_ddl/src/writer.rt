@@ -296,5 +296,5 @@ pub fn text(alloc: Global, schema: &Schema) -> Result<Text, NoMemory>
     put(&mut out, ";\n")?;
     put_groups(&mut out, groups)?;
     put_classes(&mut out, groups, schema.classes.as_slice())?;
-    Text::of(alloc, out.as_str())
+    Ok(Text::from_string(out))
 }
