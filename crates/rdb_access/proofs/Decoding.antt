@@ -11,6 +11,7 @@ use Rattle.std.proofs.lemmas.List.{take_at, drop_at}
 use Rattle.std.proofs.lemmas.Str.{utf8_lossy-IsUtf8}
 use Rattle.byteorder.specs.Endian.{little_number}
 use Rattle.byteorder.specs.Numbers.{little_number-reads_back}
+use Rattle.rdb_base.specs.declared.limits.TheConstants.{MAX_ELEMENTS}
 use Rattle.rdb_base.specs.declared.value.Rect.{Rect}
 use Rattle.rdb_base.specs.declared.value.Leaf.{Leaf}
 use Rattle.rdb_base.specs.declared.value.Leaf.TheVariants as leaf
@@ -21,17 +22,17 @@ use Rattle.rdb_base.specs.declared.value.Value.TheVariants as value
 use Rattle.rdb_schema.specs.declared.schema.FieldType.{FieldType}
 use Rattle.rdb_schema.specs.declared.schema.FieldType.TheVariants as ty
 use Rattle.rdb_schema.specs.Values.{num_holds, leaf_holds}
-use Rattle.rdb_access.specs.declared.types.ElementType.{ElementType}
-use Rattle.rdb_access.specs.declared.types.ElementType.TheVariants as elements
-use Rattle.rdb_access.specs.declared.types.ValueType.{ValueType}
-use Rattle.rdb_access.specs.declared.types.ValueType.TheVariants as values
-use Rattle.rdb_access.specs.Types.{all_pairs, element_fits, value_fits, row_fits}
-use Rattle.rdb_access.specs.Encoding.{pattern, number_bytes, rect_bytes, leaf_bytes, leaves_bytes, element_bytes, value_bytes, row_bytes}
+use Rattle.rdb_schema.specs.declared.types.ElementType.{ElementType}
+use Rattle.rdb_schema.specs.declared.types.ElementType.TheVariants as elements
+use Rattle.rdb_schema.specs.declared.types.ValueType.{ValueType}
+use Rattle.rdb_schema.specs.declared.types.ValueType.TheVariants as values
+use Rattle.rdb_schema.specs.Types.{all_pairs, element_fits, value_fits, row_fits}
+use Rattle.rdb_schema.specs.Encoding.{pattern, number_bytes, rect_bytes, leaf_bytes, leaves_bytes, element_bytes, value_bytes, row_bytes}
 use Rattle.rdb_schema.specs.Proper.{HasEdges, IsProperLeaf, EachIs, IsProperElement, IsProperValue, IsProperRow}
-use Rattle.rdb_access.specs.Encodes.{Encodes}
+use Rattle.rdb_schema.specs.Encodes.{Encodes}
 use Rattle.rdb_access.specs.Walk.{after_leaf, after_element, after_value}
 use Rattle.rdb_access.specs.Read.{edge_from, rect_from, read_leaf, read_leaves, read_element, read_elements, read_value, read_values}
-use Rattle.rdb_access.proofs.Lengths.{length-number}
+use Rattle.rdb_schema.proofs.EncodingLengths.{length-number}
 use Rattle.rdb_access.proofs.Pairs.{first_of, second_of}
 use Rattle.rdb_access.proofs.Walking.{leaf_step, element_step, value_step}
 use Rattle.rdb_access.proofs.Reading.{InRange, in_range, pattern_fits, number_back}
@@ -122,7 +123,7 @@ value_back (values.Leaf t) (value.Leaf l) rest e p = ap value.Leaf (leaf_back t 
 value_back (values.Leaf t) (value.List xs) rest e p = absurd (false≢true e)
 value_back (values.Leaf t) (value.Group ls) rest e p = absurd (false≢true e)
 value_back (values.Vector of) (value.Leaf l) rest e p = absurd (false≢true e)
-value_back (values.Vector of) (value.List xs) rest e p = ap value.List (elements_back of xs rest (second_of (nat_le (length xs) 64) (list_all (element_fits of) xs) e) p)
+value_back (values.Vector of) (value.List xs) rest e p = ap value.List (elements_back of xs rest (second_of (nat_le (length xs) MAX_ELEMENTS) (list_all (element_fits of) xs) e) p)
 value_back (values.Vector of) (value.Group ls) rest e p = absurd (false≢true e)
 value_back (values.Group ts) (value.Leaf l) rest e p = absurd (false≢true e)
 value_back (values.Group ts) (value.List xs) rest e p = absurd (false≢true e)

@@ -1,4 +1,3 @@
-pub mod Lengths
 pub mod Pairs
 pub mod Walking
 pub mod Reading

@@ -3,8 +3,8 @@ use Rattle.std.proofs.Common.{◌≡◌, ℕ, zero, suc, ◌+◌, Bool, true, fa
 use Rattle.std.specs.Prelude.{OnOk}
 use Rattle.std.specs.List.{list_all}
 use Rattle.rdb_base.specs.declared.value.Rect.{Rect}
-use Rattle.rdb_access.specs.Types.{all_pairs}
-use Rattle.rdb_access.specs.Encoding.{number_bytes, rect_bytes, pairs_bytes}
+use Rattle.rdb_schema.specs.Types.{all_pairs}
+use Rattle.rdb_schema.specs.Encoding.{number_bytes, rect_bytes, pairs_bytes}
 
 pub first_of : (a b : Bool) → (a && b) ≡ true → a ≡ true
 first_of true b e = refl

@@ -3,7 +3,7 @@ use Rattle.std.proofs.Common.{◌≡◌, ℕ, zero, suc, ◌+◌, List, [], ◌�
 use Rattle.std.specs.Option.{option_map_or}
 use Rattle.std.proofs.lemmas.List.{drop-drop, take-append-le}
 use Rattle.rdb_schema.specs.declared.schema.FieldType.{FieldType}
-use Rattle.rdb_access.specs.declared.types.ValueType.{ValueType}
+use Rattle.rdb_schema.specs.declared.types.ValueType.{ValueType}
 use Rattle.rdb_access.specs.declared.places.Step.{Step}
 use Rattle.rdb_access.specs.declared.places.Place.{Place}
 use Rattle.rdb_access.specs.declared.places.Table.{Table}

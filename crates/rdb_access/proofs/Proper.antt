@@ -8,7 +8,7 @@ use mir.Syntax.{w32}
 use mir.Val.{SFits}
 use Rattle.rdb_base.specs.declared.value.Rect.{Rect}
 use Rattle.rdb_schema.specs.Values.{num_holds}
-use Rattle.rdb_access.specs.Types.{all_pairs}
+use Rattle.rdb_schema.specs.Types.{all_pairs}
 use Rattle.rdb_schema.specs.Proper.{EachIs, HasEdges}
 use Rattle.rdb_access.proofs.Pairs.{drop_get, second_of}
 

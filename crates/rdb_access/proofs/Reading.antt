@@ -13,13 +13,13 @@ use Rattle.rdb_base.specs.declared.value.Value.{Value}
 use Rattle.rdb_base.specs.declared.value.Value.TheVariants as value
 use Rattle.rdb_schema.specs.declared.schema.FieldType.TheVariants as ty
 use Rattle.rdb_schema.specs.Values.{num_holds}
-use Rattle.rdb_access.specs.declared.types.ElementType.{ElementType}
-use Rattle.rdb_access.specs.declared.types.ValueType.{ValueType}
-use Rattle.rdb_access.specs.declared.types.ValueType.TheVariants as values
-use Rattle.rdb_access.specs.Types.{value_fits, row_fits}
-use Rattle.rdb_access.specs.Encoding.{pattern, number_bytes, vector_bytes, value_bytes, row_bytes}
+use Rattle.rdb_schema.specs.declared.types.ElementType.{ElementType}
+use Rattle.rdb_schema.specs.declared.types.ValueType.{ValueType}
+use Rattle.rdb_schema.specs.declared.types.ValueType.TheVariants as values
+use Rattle.rdb_schema.specs.Types.{value_fits, row_fits}
+use Rattle.rdb_schema.specs.Encoding.{pattern, number_bytes, vector_bytes, value_bytes, row_bytes}
 use Rattle.rdb_access.specs.Walk.{number_from, number_by, number_in, after_values, before, items_by, items_in, text_by, text_in}
-use Rattle.rdb_access.proofs.Lengths.{length-number}
+use Rattle.rdb_schema.proofs.EncodingLengths.{length-number}
 use Rattle.rdb_access.proofs.Pairs.{first_of, second_of}
 use Rattle.rdb_access.proofs.Walking.{value_there, bytes_there, value_step}
 

@@ -3,6 +3,7 @@ use Rattle.std.proofs.Common.{◌≡◌, ℕ, zero, suc, ◌+◌, ◌-◌, ◌<�
 use Rattle.std.specs.Prelude.{nat_le}
 use Rattle.std.specs.List.{list_all}
 use Rattle.std.proofs.lemmas.List.{drop_at}
+use Rattle.rdb_base.specs.declared.limits.TheConstants.{MAX_ELEMENTS}
 use Rattle.rdb_base.specs.declared.value.Leaf.{Leaf}
 use Rattle.rdb_base.specs.declared.value.Leaf.TheVariants as leaf
 use Rattle.rdb_base.specs.declared.value.Element.{Element}
@@ -12,14 +13,14 @@ use Rattle.rdb_base.specs.declared.value.Value.TheVariants as value
 use Rattle.rdb_schema.specs.declared.schema.FieldType.{FieldType}
 use Rattle.rdb_schema.specs.declared.schema.FieldType.TheVariants as ty
 use Rattle.rdb_schema.specs.Values.{leaf_holds}
-use Rattle.rdb_access.specs.declared.types.ElementType.{ElementType}
-use Rattle.rdb_access.specs.declared.types.ElementType.TheVariants as elements
-use Rattle.rdb_access.specs.declared.types.ValueType.{ValueType}
-use Rattle.rdb_access.specs.declared.types.ValueType.TheVariants as values
-use Rattle.rdb_access.specs.Types.{all_pairs, element_fits, value_fits, row_fits}
-use Rattle.rdb_access.specs.Encoding.{number_bytes, text_bytes, rect_bytes, leaf_bytes, leaves_bytes, element_bytes, value_bytes, row_bytes}
+use Rattle.rdb_schema.specs.declared.types.ElementType.{ElementType}
+use Rattle.rdb_schema.specs.declared.types.ElementType.TheVariants as elements
+use Rattle.rdb_schema.specs.declared.types.ValueType.{ValueType}
+use Rattle.rdb_schema.specs.declared.types.ValueType.TheVariants as values
+use Rattle.rdb_schema.specs.Types.{all_pairs, element_fits, value_fits, row_fits}
+use Rattle.rdb_schema.specs.Encoding.{number_bytes, text_bytes, rect_bytes, leaf_bytes, leaves_bytes, element_bytes, value_bytes, row_bytes}
 use Rattle.rdb_access.specs.Walk.{after_leaf, after_leaves, after_element, after_elements, after_value, after_values}
-use Rattle.rdb_access.proofs.Lengths.{length-number}
+use Rattle.rdb_schema.proofs.EncodingLengths.{length-number}
 use Rattle.rdb_access.proofs.Pairs.{first_of, second_of, drop_get}
 
 pub leaf_step : (t : FieldType) (l : Leaf) (rest : List ℕ) → leaf_holds t l ≡ true → after_leaf t (leaf_bytes t l ++ rest) ≡ rest
@@ -62,7 +63,7 @@ value_step (values.Leaf t) (value.Leaf l) rest e = leaf_step t l rest e
 value_step (values.Leaf t) (value.List xs) rest e = (cc)
 value_step (values.Leaf t) (value.Group ls) rest e = (cc)
 value_step (values.Vector of) (value.Leaf l) rest e = (cc)
-value_step (values.Vector of) (value.List xs) rest e = elements_step of xs rest (second_of (nat_le (length xs) 64) (list_all (element_fits of) xs) e)
+value_step (values.Vector of) (value.List xs) rest e = elements_step of xs rest (second_of (nat_le (length xs) MAX_ELEMENTS) (list_all (element_fits of) xs) e)
 value_step (values.Vector of) (value.Group ls) rest e = (cc)
 value_step (values.Group ts) (value.Leaf l) rest e = (cc)
 value_step (values.Group ts) (value.List xs) rest e = (cc)

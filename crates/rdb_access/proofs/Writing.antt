@@ -9,14 +9,14 @@ use Rattle.rdb_base.specs.declared.value.Value.{Value}
 use Rattle.rdb_base.specs.declared.value.Value.TheVariants as value
 use Rattle.rdb_schema.specs.declared.schema.FieldType.TheVariants as ty
 use Rattle.rdb_schema.specs.Values.{num_holds}
-use Rattle.rdb_access.specs.declared.types.ValueType.{ValueType}
-use Rattle.rdb_access.specs.declared.types.ValueType.TheVariants as values
-use Rattle.rdb_access.specs.Types.{value_fits, row_fits, number_fits}
-use Rattle.rdb_access.specs.Encoding.{pattern, number_bytes, value_bytes, row_bytes}
+use Rattle.rdb_schema.specs.declared.types.ValueType.{ValueType}
+use Rattle.rdb_schema.specs.declared.types.ValueType.TheVariants as values
+use Rattle.rdb_schema.specs.Types.{value_fits, row_fits, number_fits}
+use Rattle.rdb_schema.specs.Encoding.{pattern, number_bytes, value_bytes, row_bytes}
 use Rattle.rdb_schema.specs.Proper.{EachIs, IsProperValue}
-use Rattle.rdb_access.specs.Encodes.{Encodes}
+use Rattle.rdb_schema.specs.Encodes.{Encodes}
 use Rattle.rdb_access.specs.Walk.{after_values, overwritten, overwritten_by, with_number_by, with_number}
-use Rattle.rdb_access.proofs.Lengths.{length-number}
+use Rattle.rdb_schema.proofs.EncodingLengths.{length-number}
 use Rattle.rdb_access.proofs.Pairs.{first_of, second_of}
 use Rattle.rdb_access.proofs.Walking.{value_there, bytes_there}
 use Rattle.rdb_access.proofs.Reading.{too_wide, room_test}

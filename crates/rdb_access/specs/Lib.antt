@@ -1,6 +1,3 @@
-pub mod Types
-pub mod Encoding
-pub mod Encodes
 pub mod Answers
 pub mod Walk
 pub mod Read

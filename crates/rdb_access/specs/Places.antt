@@ -1,7 +1,7 @@
 -- Where fields stand in a row's bytes.
 use Rattle.std.specs.Prelude.{◌≡◌, ◌≤◌, ℕ, List, [], ◌∷◌, length, take, drop, slice_get, Some}
 use Rattle.std.specs.Option.{option_map_or}
-use Rattle.rdb_access.specs.declared.types.ValueType.{ValueType}
+use Rattle.rdb_schema.specs.declared.types.ValueType.{ValueType}
 use Rattle.rdb_access.specs.declared.places.Step.{Step}
 use Rattle.rdb_access.specs.declared.places.Place.{Place}
 use Rattle.rdb_access.specs.declared.places.Table.{Table}

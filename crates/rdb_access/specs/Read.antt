@@ -12,10 +12,10 @@ use Rattle.rdb_base.specs.declared.value.Value.{Value}
 use Rattle.rdb_base.specs.declared.value.Value.TheVariants as value
 use Rattle.rdb_schema.specs.declared.schema.FieldType.{FieldType}
 use Rattle.rdb_schema.specs.declared.schema.FieldType.TheVariants as ty
-use Rattle.rdb_access.specs.declared.types.ElementType.{ElementType}
-use Rattle.rdb_access.specs.declared.types.ElementType.TheVariants as elements
-use Rattle.rdb_access.specs.declared.types.ValueType.{ValueType}
-use Rattle.rdb_access.specs.declared.types.ValueType.TheVariants as values
+use Rattle.rdb_schema.specs.declared.types.ElementType.{ElementType}
+use Rattle.rdb_schema.specs.declared.types.ElementType.TheVariants as elements
+use Rattle.rdb_schema.specs.declared.types.ValueType.{ValueType}
+use Rattle.rdb_schema.specs.declared.types.ValueType.TheVariants as values
 use Rattle.rdb_access.specs.Walk.{after_leaf, after_element, after_value, number_from, text_from}
 
 -- the edge that bytes begin with, of 4 bytes; 0 where there are fewer

@@ -3,11 +3,11 @@ use Rattle.std.specs.Prelude.{ℕ, zero, suc, ◌+◌, ◌-◌, ℤ, pos, Bool, 
 use Rattle.byteorder.specs.Endian.{little_number, little_bytes, twos_complement}
 use Rattle.rdb_schema.specs.declared.schema.FieldType.{FieldType}
 use Rattle.rdb_schema.specs.declared.schema.FieldType.TheVariants as ty
-use Rattle.rdb_access.specs.Encoding.{pattern}
-use Rattle.rdb_access.specs.declared.types.ElementType.{ElementType}
-use Rattle.rdb_access.specs.declared.types.ElementType.TheVariants as elements
-use Rattle.rdb_access.specs.declared.types.ValueType.{ValueType}
-use Rattle.rdb_access.specs.declared.types.ValueType.TheVariants as values
+use Rattle.rdb_schema.specs.Encoding.{pattern}
+use Rattle.rdb_schema.specs.declared.types.ElementType.{ElementType}
+use Rattle.rdb_schema.specs.declared.types.ElementType.TheVariants as elements
+use Rattle.rdb_schema.specs.declared.types.ValueType.{ValueType}
+use Rattle.rdb_schema.specs.declared.types.ValueType.TheVariants as values
 
 -- how many bytes the leaf takes with which bytes begin: a text says it in its first byte
 abbrev pub leaf_width : FieldType → List ℕ → ℕ

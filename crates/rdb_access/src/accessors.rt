@@ -2,21 +2,21 @@
 
 ghost use Rattle.std.specs.Prelude.{◌≡◌, IfOk, IsTrue, ℕ, ℤ, List, slice_get, slice_set};
 ghost use Rattle.std.specs.Str.{IsUtf8};
-ghost use Rattle.rdb_access.specs.Types.{types_of, row_fits, number_fits};
-ghost use Rattle.rdb_access.specs.Encodes.{Encodes};
-ghost use Rattle.rdb_access.specs.Encoding.{row_bytes, vector_bytes};
+ghost use Rattle.rdb_schema.specs.Types.{types_of, row_fits, number_fits};
+ghost use Rattle.rdb_schema.specs.Encodes.{Encodes};
+ghost use Rattle.rdb_schema.specs.Encoding.{row_bytes, vector_bytes};
 ghost use Rattle.rdb_access.specs.Answers.{IsEncodeAnswer};
 
 use crate::decode::read_row;
 use crate::encode::{EncodeFault, append_row, checked_length};
 use crate::places::{Table, table_of};
 use crate::read::{as_text, items_in, number_in, text_in};
-use crate::types::{ElementType, ValueType, ValueTypes, types_of};
 use crate::write::set_number_in;
 use rdb_base::files::Bytes;
 use rdb_base::list::{List, NoMemory};
 use rdb_base::value::{Element, Leaf, Row, Value};
 use rdb_schema::schema::Schema;
+use rdb_schema::types::{ElementType, ValueType, ValueTypes, types_of};
 use std::alloc::Global;
 use std::marker::Model;
 
@@ -30,7 +30,7 @@ pub struct Accessors {
 
 impl Model for Accessors {
     ghost use Rattle.std.specs.Prelude.{List};
-    ghost use Rattle.rdb_access.specs.declared.types.ValueType.{ValueType};
+    ghost use Rattle.rdb_schema.specs.declared.types.ValueType.{ValueType};
 
     ghost Value = { List ValueType };
 
@@ -57,7 +57,7 @@ impl Accessors {
     }
 
     /// The encoding of a row whose values are of the class's types: fields in declared order with nothing between them, numbers with
-    /// their lowest byte first, in two's complement. A row that takes more than 4,000 bytes is `TooLong`. The cost grows with the row.
+    /// their lowest byte first, in two's complement. A row that takes more than `MAX_ROW` bytes is `TooLong`. The cost grows with the row.
     pub fn encode(&self, row: &Row) -> Result<Bytes, EncodeFault>
         requires { IsTrue (row_fits self.now row.now) }
         ensures answer { IsEncodeAnswer (row_bytes self.now row.now) result }
@@ -97,7 +97,8 @@ impl Accessors {
     /// encode a row and the field is a vector; of others it is some part. It takes no memory. The cost grows with the leaves of varying
     /// size up to the field's end.
     pub fn items<'a>(&self, bytes: &'a [u8], field: u32) -> &'a [u8]
-        ensures { (row : List Value) (of : ElementType) (elements : List Element) → IsTrue (row_fits self.now row) → bytes.now ≡ row_bytes self.now row
+        ensures { (row : List Value) (of : ElementType) (elements : List Element) → IsTrue (row_fits self.now row)
+            → bytes.now ≡ row_bytes self.now row
             → slice_get self.now field ≡ Some (ValueType.Vector of) → slice_get row field ≡ Some (Value.List elements)
             → result.now ≡ vector_bytes of elements }
     {
@@ -108,7 +109,8 @@ impl Accessors {
     /// anywhere. It takes no memory. The cost grows with the fields before the field that vary in size.
     pub fn set_number(&self, bytes: &mut [u8], field: u32, value: i128)
         requires { IsTrue (number_fits (slice_get self.now field) value) }
-        ensures { (row : List Value) → Encodes self.now row bytes.old → Encodes self.now (slice_set row field (Value.Leaf (Leaf.Num value))) bytes.new }
+        ensures { (row : List Value) → Encodes self.now row bytes.old
+            → Encodes self.now (slice_set row field (Value.Leaf (Leaf.Num value))) bytes.new }
     {
         set_number_in(&self.types, &self.table, bytes, field as usize, value);
     }

@@ -6,13 +6,13 @@ ghost use Rattle.rdb_access.specs.Walk.{text_from};
 ghost use Rattle.rdb_access.specs.Read.{edge_from, rect_from, read_leaf, read_leaves, read_element, read_elements, read_value, read_values};
 
 use crate::read::{number_from, text_from};
-use crate::types::{ElementType, LeafTypes, ValueType, ValueTypes};
 use crate::walk::{after, after_element, after_leaf, after_value, first_byte};
 use byteorder::{ByteOrder, LittleEndian};
 use rdb_base::list::{List, NoMemory};
 use rdb_base::text::Text;
 use rdb_base::value::{Element, Elements, Leaf, Leaves, Rect, Row, Value};
 use rdb_schema::schema::FieldType;
+use rdb_schema::types::{ElementType, LeafTypes, ValueType, ValueTypes};
 use std::alloc::Global;
 
 fn edge_from(bytes: &[u8]) -> i32

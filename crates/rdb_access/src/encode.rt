@@ -3,29 +3,27 @@
 ghost use Rattle.std.specs.Prelude.{◌≡◌, ◌≤◌, ◌<◌, ◌^◌, ◌++◌, OnOk, IsTrue, length, flat_map};
 ghost use Rattle.std.specs.List.{list_all};
 ghost use Rattle.rdb_schema.specs.Values.{num_holds, leaf_holds};
-ghost use Rattle.rdb_access.specs.Types.{all_pairs, element_fits, value_fits, row_fits};
-ghost use Rattle.rdb_access.specs.Encoding.{pattern, number_bytes, text_bytes, rect_bytes, leaf_bytes, leaves_bytes, element_bytes, vector_bytes, value_bytes, row_bytes};
+ghost use Rattle.rdb_schema.specs.Types.{all_pairs, element_fits, value_fits, row_fits};
+ghost use Rattle.rdb_schema.specs.Encoding.{pattern, number_bytes, text_bytes, rect_bytes, leaf_bytes, leaves_bytes, element_bytes, vector_bytes, value_bytes, row_bytes};
 ghost use Rattle.std.specs.Str.{IsUtf8};
 ghost use Rattle.rdb_schema.specs.Proper.{HasEdges, IsProperLeaf, EachIs, IsProperElement, IsProperValue, IsProperRow};
 ghost use Rattle.rdb_access.specs.Answers.{IsEncodeAnswer};
 
-use crate::types::{ElementType, LeafTypes, ValueType, ValueTypes};
 use byteorder::{ByteOrder, LittleEndian};
 use rdb_base::files::Bytes;
+use rdb_base::limits::{MAX_ELEMENTS, MAX_ROW, MAX_TEXT};
 use rdb_base::list::NoMemory;
 use rdb_base::text::Text;
 use rdb_base::value::{Element, Elements, Leaf, Leaves, Rect, Row, Value};
 use rdb_schema::schema::FieldType;
+use rdb_schema::types::{ElementType, LeafTypes, ValueType, ValueTypes};
 use thiserror::Error;
-
-/// How many bytes a row may take.
-const ROW_LIMIT: usize = 4000;
 
 /// Why a row was not encoded.
 #[derive(Clone, Copy, Debug, PartialEq, Eq, Error)]
 pub enum EncodeFault {
-    /// The row takes so many bytes, more than 4,000. The greatest `u32` stands for more than that, too.
-    #[error("the row takes {length} bytes, and 4000 are the most")]
+    /// The row takes so many bytes, more than `MAX_ROW`. The greatest `u32` stands for more than that, too.
+    #[error("the row takes {length} bytes, and {MAX_ROW} are the most")]
     TooLong { length: u32 },
     #[error("out of memory")]
     NoMemory,
@@ -71,7 +69,7 @@ fn append_number(out: &mut Bytes, bytes: u8, signed: bool, number: i128) -> Resu
 }
 
 fn append_text(out: &mut Bytes, words: &Text) -> Result<(), NoMemory>
-    requires { length words.now ≤ 255 }
+    requires { length words.now ≤ MAX_TEXT }
     ensures appended { OnOk result (out.new ≡ out.old ++ text_bytes words.now) }
     ensures proper { OnOk result (IsUtf8 words.now) }
 {
@@ -141,7 +139,7 @@ fn append_elements(out: &mut Bytes, of: &ElementType, elements: &Elements) -> Re
 }
 
 fn append_vector(out: &mut Bytes, of: &ElementType, elements: &Elements) -> Result<(), NoMemory>
-    requires few { length elements.now ≤ 64 }
+    requires few { length elements.now ≤ MAX_ELEMENTS }
     requires fit { IsTrue (list_all (element_fits of.now) elements.now) }
     ensures appended { OnOk result (out.new ≡ out.old ++ vector_bytes of.now elements.now) }
     ensures proper { OnOk result (EachIs IsProperElement elements.now) }
@@ -180,7 +178,7 @@ pub(crate) fn checked_length(bytes: Bytes) -> Result<Bytes, EncodeFault>
     ensures { IsEncodeAnswer bytes result }
 {
     let length = bytes.len();
-    if length <= ROW_LIMIT {
+    if length <= MAX_ROW {
         return Ok(bytes);
     }
     Err(EncodeFault::TooLong {

@@ -4,13 +4,9 @@
 pub mod accessors;
 mod decode;
 pub mod encode;
-mod laws;
 mod places;
 mod read;
 #[cfg(test)]
 mod tests;
-pub mod types;
 mod walk;
 mod write;
-
-pub use laws::encoding_has_the_row_length;

@@ -4,9 +4,9 @@ ghost use Rattle.std.specs.Prelude.{◌≡◌, ◌<◌, ◌+◌, ℕ, List, IfOk
 ghost use Rattle.rdb_access.specs.Walk.{after_leaf, after_leaves, after_value};
 ghost use Rattle.rdb_access.specs.Places.{IsTable, IsTableTo};
 
-use crate::types::{LeafTypes, ValueType, ValueTypes};
 use rdb_base::list::{List, NoMemory};
 use rdb_schema::schema::FieldType;
+use rdb_schema::types::{LeafTypes, ValueType, ValueTypes};
 use std::alloc::Global;
 
 /// A field that varies in size, and how many bytes it begins behind the one before it that does, or behind the row's start.

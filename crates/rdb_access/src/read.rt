@@ -6,10 +6,11 @@ ghost use Rattle.rdb_access.specs.Places.{after_step, after_steps, IsTable};
 ghost use Rattle.std.specs.Str.{IsUtf8};
 
 use crate::places::{Step, Table};
-use crate::types::{ValueType, ValueTypes};
 use crate::walk::{after, after_value, first_byte};
 use byteorder::{ByteOrder, LittleEndian};
+use rdb_base::text::utf8;
 use rdb_schema::schema::FieldType;
+use rdb_schema::types::{ValueType, ValueTypes};
 
 pub(crate) fn number_from(bytes: &[u8], width: u8, signed: bool) -> i128
     ensures { result ≡ number_from width signed bytes.now }
@@ -132,8 +133,5 @@ pub(crate) fn text_in<'a>(
 pub(crate) fn as_text(words: &[u8]) -> &str
     ensures { IsUtf8 words.now → result.now ≡ words.now }
 {
-    match str::from_utf8(words) {
-        Ok(text) => text,
-        Err(_) => "",
-    }
+    utf8(words).unwrap_or("")
 }

@@ -47,7 +47,7 @@ fn schema(alloc: Global, group: &[FieldType], class: &[FieldType]) -> Result<Sch
 }
 
 /// The encoding of a row of the first class; want of memory stands for a row that is none of it.
-#[tactic(auto, using(crate::proofs::Lengths::row_fits_of))]
+#[tactic(auto, using(rdb_schema::proofs::EncodingLengths::row_fits_of))]
 fn encoded(alloc: Global, schema: &Schema, row: &Row) -> Result<Bytes, EncodeFault> {
     let accessors = Accessors::of(alloc, schema, 0)?;
     if row_holds(schema, 0, row) {
@@ -63,7 +63,7 @@ fn decoded(alloc: Global, schema: &Schema, bytes: &[u8]) -> Result<Row, NoMemory
 }
 
 /// Writes a number over that in a field of the first class; nothing where it isn't one of the field's type.
-#[tactic(auto, using(crate::proofs::Lengths::number_fits_of))]
+#[tactic(auto, using(rdb_schema::proofs::EncodingLengths::number_fits_of))]
 fn set(
     alloc: Global,
     schema: &Schema,

@@ -3,8 +3,8 @@
 ghost use Rattle.std.specs.Prelude.{◌≡◌, drop, take, slice_index};
 ghost use Rattle.rdb_access.specs.Walk.{leaf_width, after_leaf, after_leaves, after_element, after_elements, after_value};
 
-use crate::types::{ElementType, LeafTypes, ValueType};
 use rdb_schema::schema::FieldType;
+use rdb_schema::types::{ElementType, LeafTypes, ValueType};
 
 /// The first byte, 0 where there is none.
 pub(crate) fn first_byte(bytes: &[u8]) -> usize

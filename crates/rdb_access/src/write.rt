@@ -1,16 +1,16 @@
 //! A write over the number in one field. It changes these bytes alone, and takes no memory.
 
 ghost use Rattle.std.specs.Prelude.{◌≡◌, ◌<◌, ◌^◌, IsTrue, Some, slice_get};
-ghost use Rattle.rdb_access.specs.Types.{number_fits};
+ghost use Rattle.rdb_schema.specs.Types.{number_fits};
 ghost use Rattle.rdb_access.specs.Walk.{overwritten, overwritten_by, with_number};
 ghost use Rattle.rdb_access.specs.Places.{IsTable};
 
 use crate::encode::pattern;
 use crate::places::Table;
 use crate::read::from_field;
-use crate::types::{ValueType, ValueTypes};
 use byteorder::{ByteOrder, LittleEndian};
 use rdb_schema::schema::FieldType;
+use rdb_schema::types::{ValueType, ValueTypes};
 
 fn overwrite(bytes: &mut [u8], width: u8, pattern: u64)
     requires { pattern < 256 ^ width }

@@ -1,6 +1,7 @@
 //! Copies into memory of their own, for all types that hold lists.
 
-ghost use Rattle.std.specs.Prelude.{◌≡◌, IfOk};
+ghost use Rattle.std.specs.Prelude.{◌≡◌, IfOk, IsSome};
+ghost use Rattle.rdb_base.specs.Operations.{index_named};
 
 use crate::identity::ConnId;
 use crate::journal::{Entry, Story};
@@ -94,6 +95,43 @@ impl Duplicate for Place {
     }
 }
 
+// A copy of an operation that looks in an index.
+fn copied_lookup(lookup: &Op) -> Result<Op, NoMemory>
+    requires { IsSome (index_named lookup.now) }
+    ensures { IfOk result (λ copy. copy ≡ lookup.now) }
+{
+    let class = lookup.class();
+    let Some(index) = lookup.index() else {
+        unreachable!();
+    };
+    Ok(match lookup {
+        Op::Find { key, .. } => Op::Find {
+            class,
+            index,
+            key: key.copy()?,
+        },
+        Op::Seek { place, up, .. } => Op::Seek {
+            class,
+            index,
+            place: place.duplicate()?,
+            up: *up,
+        },
+        Op::Area { rect, inside, .. } => Op::Area {
+            class,
+            index,
+            rect: *rect,
+            inside: *inside,
+        },
+        Op::Prefix { text, how, .. } => Op::Prefix {
+            class,
+            index,
+            text: text.copy()?,
+            how: *how,
+        },
+        _ => unreachable!(),
+    })
+}
+
 impl Duplicate for Op {
     fn duplicate(&self) -> Result<Op, NoMemory> {
         Ok(match self {
@@ -115,44 +153,8 @@ impl Duplicate for Op {
                 class: *class,
                 id: *id,
             },
-            Op::Find { class, index, key } => Op::Find {
-                class: *class,
-                index: *index,
-                key: key.copy()?,
-            },
-            Op::Seek {
-                class,
-                index,
-                place,
-                up,
-            } => Op::Seek {
-                class: *class,
-                index: *index,
-                place: place.duplicate()?,
-                up: *up,
-            },
-            Op::Area {
-                class,
-                index,
-                rect,
-                inside,
-            } => Op::Area {
-                class: *class,
-                index: *index,
-                rect: *rect,
-                inside: *inside,
-            },
-            Op::Prefix {
-                class,
-                index,
-                text,
-                how,
-            } => Op::Prefix {
-                class: *class,
-                index: *index,
-                text: text.copy()?,
-                how: *how,
-            },
+            Op::Find { .. } | Op::Seek { .. } | Op::Area { .. } | Op::Prefix { .. } =>
+                copied_lookup(self)?,
             Op::Count { class } => Op::Count { class: *class },
         })
     }

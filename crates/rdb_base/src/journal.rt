@@ -1,4 +1,8 @@
-//! What has happened: the story of each transaction, and the journal of all of them.
+//! What has happened: the story of each transaction, and the entries in which they end.
+
+ghost use Rattle.std.specs.Prelude.{◌≡◌};
+ghost use Rattle.std.specs.Option.{option_copied};
+ghost use Rattle.rdb_base.specs.Entries.{is_commit, story_of, client_of};
 
 use crate::list::List;
 use crate::operation::{Op, Reply};
@@ -44,7 +48,8 @@ pub enum Entry {
         story: Story,
         cause: Cause,
     },
-    /// A dead client was handled: condemned by slot `by` when the journal had `at` entries; `finished` where its last transaction stood marked.
+    /// A dead client was handled: condemned by slot `by` when the journal had `at` entries; `finished` where its last transaction
+    /// stood marked.
     Handled {
         client: u32,
         by: u32,
@@ -56,5 +61,36 @@ pub enum Entry {
     },
 }
 
-/// All entries in order.
-pub type Journal = List<Entry>;
+impl Entry {
+    /// Whether the entry is a commit.
+    pub fn is_commit(&self) -> bool
+        ensures { result ≡ is_commit self.now }
+    {
+        matches!(self, Entry::Commit { .. })
+    }
+
+    /// The story of the transaction that the entry ends, if it ends one.
+    pub fn story(&self) -> Option<&Story>
+        ensures { option_copied result ≡ story_of self.now }
+    {
+        match self {
+            Entry::Commit { story, .. } | Entry::Read { story } | Entry::Abort { story, .. } =>
+                Some(story),
+            Entry::Handled { .. } | Entry::Closed { .. } => None,
+        }
+    }
+
+    /// The client that the entry is of: the one whose transaction it ends, or that it takes leave of.
+    pub fn client(&self) -> u32
+        ensures { result ≡ client_of self.now }
+    {
+        match self {
+            Entry::Commit { story, .. } | Entry::Read { story } | Entry::Abort { story, .. } =>
+                story.client,
+            Entry::Handled { client, .. } | Entry::Closed { client } => *client,
+        }
+    }
+}
+
+/// Entries in the order in which they came.
+pub type Entries = List<Entry>;

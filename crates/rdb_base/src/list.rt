@@ -1,6 +1,6 @@
 //! The one list type of the project, which contracts see as a list. It touches nothing but its own vector.
 
-ghost use Rattle.std.specs.Prelude.{◌≡◌, ◌+◌, ◌<◌, ◌==◌, [], ◌∷◌, ◌++◌, length, IfOk, OnOk, OnErr, slice_get, Some};
+ghost use Rattle.std.specs.Prelude.{◌≡◌, ◌+◌, ◌<◌, ◌==◌, [], ◌∷◌, ◌++◌, length, IfOk, OnOk, OnErr, slice_get, slice_set, Some};
 ghost use Rattle.std.specs.Cmp.Lexicographic.{pointwise, slice_cmp, slice_partial_cmp, lists_equiv, lists_agrees, lists_total, lists_ties, lists_per, lists_po};
 
 use crate::duplicate::Duplicate;
@@ -70,11 +70,35 @@ impl<T> List<T> {
         &self.elements[place]
     }
 
+    /// Puts another element in the place of one, counted from 0, which is dropped. It takes no memory, and the cost is constant.
+    pub fn set(&mut self, place: usize, element: T)
+    where
+        T: Drop,
+        requires { place < length self.old }
+        ensures { self.new ≡ slice_set self.old place element }
+    {
+        self.elements[place] = element;
+    }
+
     /// The elements in order, lent.
     pub fn as_slice(&self) -> &[T]
         ensures { result.now ≡ self.now }
     {
         self.elements.as_slice()
+    }
+
+    // The list of a vector's elements, in its memory.
+    pub(crate) fn from_vec(elements: Vec<T>) -> List<T>
+        ensures { result ≡ elements.items }
+    {
+        List { elements }
+    }
+
+    // The vector of the elements, in their memory.
+    pub(crate) fn into_vec(self) -> Vec<T>
+        ensures { result.items ≡ self }
+    {
+        self.elements
     }
 }
 

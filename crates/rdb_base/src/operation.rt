@@ -1,5 +1,8 @@
 //! What a transaction asks of the database, and what it is told.
 
+ghost use Rattle.std.specs.Prelude.{◌≡◌};
+ghost use Rattle.rdb_base.specs.Operations.{class_of, index_named, is_write};
+
 use crate::list::List;
 use crate::text::Text;
 use crate::value::{Rect, Row};
@@ -68,6 +71,46 @@ pub enum Op {
     Count {
         class: u32,
     },
+}
+
+impl Op {
+    /// The class that the operation is of.
+    pub fn class(&self) -> u32
+        ensures { result ≡ class_of self.now }
+    {
+        match self {
+            Op::New { class, .. }
+            | Op::Get { class, .. }
+            | Op::Put { class, .. }
+            | Op::Del { class, .. }
+            | Op::Find { class, .. }
+            | Op::Seek { class, .. }
+            | Op::Area { class, .. }
+            | Op::Prefix { class, .. }
+            | Op::Count { class } => *class,
+        }
+    }
+
+    /// The index of its class that the operation looks in, if it names one.
+    pub fn index(&self) -> Option<u32>
+        ensures { result ≡ index_named self.now }
+    {
+        match self {
+            Op::Find { index, .. }
+            | Op::Seek { index, .. }
+            | Op::Area { index, .. }
+            | Op::Prefix { index, .. } => Some(*index),
+            Op::New { .. } | Op::Get { .. } | Op::Put { .. } | Op::Del { .. } | Op::Count { .. } =>
+                None,
+        }
+    }
+
+    /// Whether the operation is of those that write: it makes, replaces or deletes an object.
+    pub fn writes(&self) -> bool
+        ensures { result ≡ is_write self.now }
+    {
+        matches!(self, Op::New { .. } | Op::Put { .. } | Op::Del { .. })
+    }
 }
 
 pub type Ids = List<u64>;

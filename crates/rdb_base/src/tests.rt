@@ -5,6 +5,8 @@ ghost use Rattle.std.specs.Prelude.{◌≡◌, ◌<◌};
 use crate::duplicate::Duplicate;
 use crate::files::{Files, ReadFault};
 use crate::identity::ConnId;
+use crate::journal::{Entry, Story};
+use crate::limits::MAX_PLACES;
 use crate::list::{List, NoMemory};
 use crate::listed_deaths::ListedDeaths;
 use crate::liveness::Liveness;
@@ -12,10 +14,11 @@ use crate::memory_files::MemoryFiles;
 use crate::memory_sink::MemorySink;
 use crate::operation::Op;
 use crate::order::{order, order_rows};
+use crate::ready::Ready;
 use crate::sink::Sink;
 use crate::steps::Steps;
 use crate::sure::{SureFiles, SureSink};
-use crate::text::Text;
+use crate::text::{Text, is_utf8, utf8};
 use crate::value::{Element, Leaf, Rect, Row, Value};
 use std::alloc::Global;
 use std::marker::Brand;
@@ -103,6 +106,100 @@ fn a_copy_of_an_operation_is_equal(rt: HostRuntime) -> Result<(), Fail> {
     };
     let copy = operation.duplicate()?;
     assert!(rt; copy == operation);
+    Ok(())
+}
+
+#[test]
+fn reserved_room_is_appended_to_its_last_place(rt: HostRuntime) -> Result<(), Fail> {
+    let mut ready = Ready::new(rt.alloc());
+    ready.reserve(2)?;
+    ready.append(10);
+    ready.append(20);
+    assert_eq!(rt; ready.room(), 0);
+    assert!(rt; ready.as_slice() == [10, 20].as_slice());
+    Ok(())
+}
+
+#[test]
+fn room_past_the_limit_is_refused_and_changes_nothing(rt: HostRuntime) -> Result<(), Fail> {
+    let mut ready = Ready::<u32>::new(rt.alloc());
+    ready.reserve(1)?;
+    assert!(rt; ready.reserve(MAX_PLACES).is_err());
+    assert_eq!(rt; ready.room(), 1);
+    assert!(rt; ready.is_empty());
+    Ok(())
+}
+
+#[test]
+fn what_is_taken_away_leaves_its_room(rt: HostRuntime) -> Result<(), Fail> {
+    let list = List::from_slice(rt.alloc(), &[10, 20, 30])?;
+    let mut ready = Ready::from_list(list);
+    ready.set(0, 15);
+    assert_eq!(rt; *ready.at(0), 15);
+    assert!(rt; ready.pop() == Some(30));
+    assert_eq!(rt; (ready.len(), ready.room()), (2, 1));
+    ready.clear();
+    assert_eq!(rt; ready.room(), 3);
+    assert!(rt; ready.into_list().is_empty());
+    Ok(())
+}
+
+#[test]
+fn an_element_is_set_in_its_place(rt: HostRuntime) -> Result<(), Fail> {
+    let mut list = List::from_slice(rt.alloc(), &[10, 20, 30])?;
+    list.set(1, 25);
+    assert!(rt; list.as_slice() == [10, 25, 30].as_slice());
+    Ok(())
+}
+
+#[test]
+fn an_operation_names_its_class_and_its_index(rt: HostRuntime) -> Result<(), Fail> {
+    let lookup = Op::Find {
+        class: 3,
+        index: 5,
+        key: List::new(rt.alloc()),
+    };
+    assert_eq!(rt; lookup.class(), 3);
+    assert!(rt; lookup.index() == Some(5));
+    assert!(rt; !lookup.writes());
+    let deletion = Op::Del { class: 2, id: 7 };
+    assert_eq!(rt; deletion.class(), 2);
+    assert!(rt; deletion.index() == None);
+    assert!(rt; deletion.writes());
+    Ok(())
+}
+
+#[test]
+fn an_entry_names_its_client_and_its_story(rt: HostRuntime) -> Result<(), Fail> {
+    let commit = Entry::Commit {
+        story: Story {
+            client: 4,
+            number: 1,
+            begun: 0,
+            snapshot: 0,
+            done: List::new(rt.alloc()),
+        },
+        commit: 1,
+    };
+    assert!(rt; commit.is_commit());
+    assert_eq!(rt; commit.client(), 4);
+    assert!(rt; commit.story().is_some());
+    let closed = Entry::Closed { client: 6 };
+    assert!(rt; !closed.is_commit());
+    assert_eq!(rt; closed.client(), 6);
+    assert!(rt; closed.story().is_none());
+    Ok(())
+}
+
+#[test]
+fn bytes_are_a_text_where_they_are_utf8(rt: HostRuntime) -> Result<(), Fail> {
+    let valid = [0xc3, 0xa9];
+    let cut = [0xc3];
+    assert!(rt; Text::from_utf8(rt.alloc(), &valid)?.is_some());
+    assert!(rt; Text::from_utf8(rt.alloc(), &cut)?.is_none());
+    assert!(rt; utf8(&valid).is_some());
+    assert!(rt; is_utf8(&valid));
+    assert!(rt; !is_utf8(&cut));
     Ok(())
 }
 

@@ -1,6 +1,8 @@
 //! A text of its own memory, which contracts see as its bytes.
 
-ghost use Rattle.std.specs.Prelude.{◌≡◌, IfOk, nat_eq, refl, string_bytes};
+ghost use Rattle.std.specs.Prelude.{◌≡◌, IfOk, IfSome, IfNone, nat_eq, refl, string_bytes};
+ghost use Rattle.std.specs.Bool.{OnTrue, OnFalse};
+ghost use Rattle.std.specs.Str.{IsUtf8};
 ghost use Rattle.std.specs.Ordering.{nat_cmp, as_partial_cmp};
 ghost use Rattle.std.specs.Cmp.{nat_eq_equiv, nat_cmp_total, partial_equiv_from_equiv, partial_order_from_agreeing_total};
 ghost use Rattle.std.specs.Cmp.Lexicographic.{pointwise, slice_cmp, lists_equiv, lists_total, texts_ties};
@@ -9,6 +11,7 @@ use crate::list::{List, NoMemory};
 use std::alloc::Global;
 use std::cmp::Ordering;
 use std::marker::Model;
+use std::str;
 
 /// A UTF-8 text. Contracts see it as its bytes.
 #[derive(Debug, Drop)]
@@ -36,6 +39,17 @@ impl Text {
         })
     }
 
+    /// A copy of the bytes as a text, where they are UTF-8. The cost grows with them.
+    pub fn from_utf8(alloc: Global, bytes: &[u8]) -> Result<Option<Text>, NoMemory>
+        ensures some { IfOk result (λ found. IfSome found (λ text. (text ≡ bytes.now) × IsUtf8 bytes.now)) }
+        ensures none { IfOk result (λ found. IfNone found (¬ IsUtf8 bytes.now)) }
+    {
+        match utf8(bytes) {
+            Some(words) => Ok(Some(Text::of(alloc, words)?)),
+            None => Ok(None),
+        }
+    }
+
     /// The text of these words. It takes no memory.
     pub fn from_string(words: String) -> Text
         ensures { result ≡ string_bytes words }
@@ -57,6 +71,28 @@ impl Text {
         Ok(Text {
             words: self.words.clone()?,
         })
+    }
+}
+
+/// The bytes as words, where they are UTF-8. It takes no memory, and the cost grows with them.
+pub fn utf8(bytes: &[u8]) -> Option<&str>
+    ensures some { IfSome result (λ words. (words.now ≡ bytes.now) × IsUtf8 bytes.now) }
+    ensures none { IfNone result (¬ IsUtf8 bytes.now) }
+{
+    match str::from_utf8(bytes) {
+        Ok(words) => Some(words),
+        Err(_) => None,
+    }
+}
+
+/// Whether the bytes are UTF-8. It takes no memory, and the cost grows with them.
+pub fn is_utf8(bytes: &[u8]) -> bool
+    ensures yes { OnTrue result (IsUtf8 bytes.now) }
+    ensures no { OnFalse result (¬ IsUtf8 bytes.now) }
+{
+    match str::from_utf8(bytes) {
+        Ok(_) => true,
+        Err(_) => false,
     }
 }
 

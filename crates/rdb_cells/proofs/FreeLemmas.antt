@@ -66,6 +66,7 @@ free_when_planned ps image class_of of n free = elim (true_or_false (names ps n)
   | inr unnamed ↦ inr (record {
     zero = sym (ap (λ (o : Option Cell). first_of o (image n)) (content_unnamed ps n unnamed)) ∙ free.zero;
     class = free.class;
+    page = free.page;
   })
 ]
 
@@ -84,6 +85,7 @@ free_when_settled rs image class_of of n free = elim (true_or_false (some_names 
   | inr unnamed ↦ inr (record {
     zero = sym (settled-other rs image n unnamed) ∙ free.zero;
     class = free.class;
+    page = free.page;
   })
 ]
 

@@ -10,8 +10,9 @@ use Rattle.rdb_base.specs.declared.value.Rect.{Rect}
 use Rattle.rdb_base.specs.Order.{row_order}
 use Rattle.rdb_base.proofs.OrderLemmas.{row_order_total, row_level}
 use Rattle.rdb_pages.specs.declared.cell.Cell.{Cell}
-use Rattle.rdb_cells.specs.Index.{Version, version_order, key_order}
-use Rattle.rdb_cells.specs.Words.{kind_number}
+use Rattle.rdb_cells.specs.declared.kind.Kind.TheVariants as kind
+use Rattle.rdb_cells.specs.Keys.{Version, version_order, key_order}
+use Rattle.rdb_cells.specs.Words.{IsOfKind}
 use Rattle.rdb_cells.specs.OneKey.{version_of_header, version_held, header_order, id_order, held_is, header_of_version, is_version}
 
 -- a row is level with itself
@@ -36,7 +37,7 @@ module _ (key : List Value) where
       let found = held_is key o v held in
       found.3 ∙ ap (version_of_header key) (ap (λ (p : Option Cell). option_map_or (λ d. d) p c) (sym found.1 ∙ is))
 
-  pub held_version : (o : Option Cell) (c : Cell) → o ≡ Some c → kind_number c ≡ 2 → version_held key o ≡ Some (version_of_header key c)
+  pub held_version : (o : Option Cell) (c : Cell) → o ≡ Some c → IsOfKind c kind.Version → version_held key o ≡ Some (version_of_header key c)
   held_version o c is kind = ap (version_held key) is ∙ is_version key c kind
 
   own_key : (o : Option Cell) (v : Version) → version_held key o ≡ Some v → v.key ≡ key

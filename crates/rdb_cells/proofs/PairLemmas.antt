@@ -8,7 +8,7 @@ use Rattle.rdb_pages.specs.declared.cell.Cell.{Cell}
 use Rattle.rdb_cells.specs.declared.pairs.Pair.{Pair}
 use Rattle.rdb_cells.specs.Images.{Image, Writes}
 use Rattle.rdb_cells.specs.Places.{AreDifferent}
-use Rattle.rdb_cells.specs.Records.{names, content, replaced, with_put, first_of, planned}
+use Rattle.rdb_cells.specs.Records.{names, numbers_of, content, replaced, with_put, first_of, planned}
 
 -- a replaced list gives the new content for its cell, and what it gave for the others
 content-replaced_same : (ps : List Pair) (n : ℕ) (cell : Cell) → names ps n ≡ true → content (replaced ps n cell) n ≡ Some cell
@@ -34,7 +34,7 @@ content-replaced_other (p ∷ ps) n m cell ne = elim (which p.at.number n) [
       ])
 ]
 
-content-append_same : (ps : List Pair) (p : Pair) (n : ℕ) → names ps n ≡ false → p.at.number ≡ n → content (ps ++ p ∷ []) n ≡ Some p.cell
+pub content-append_same : (ps : List Pair) (p : Pair) (n : ℕ) → names ps n ≡ false → p.at.number ≡ n → content (ps ++ p ∷ []) n ≡ Some p.cell
 content-append_same [] p n e same = rw (eq-eqb p.at.number n same) refl
 content-append_same (q ∷ ps) p n e same =
     (elim (q.at.number == n) as (λ (b : Bool). (b || names ps n) ≡ false → option_map (λ (r : Pair). r.cell) (cond b (Some q) (find (λ (r : Pair). r.at.number == n) (ps ++ p ∷ []))) ≡ Some p.cell) [
@@ -42,7 +42,7 @@ content-append_same (q ∷ ps) p n e same =
       | false ↦ λ h. content-append_same ps p n h same
     ]) e
 
-content-append_other : (ps : List Pair) (p : Pair) (n : ℕ) → n ≢ p.at.number → content (ps ++ p ∷ []) n ≡ content ps n
+pub content-append_other : (ps : List Pair) (p : Pair) (n : ℕ) → n ≢ p.at.number → content (ps ++ p ∷ []) n ≡ content ps n
 content-append_other [] p n ne = rw (ne_eqb p.at.number n (λ e. ne (sym e))) refl
 content-append_other (q ∷ ps) p n ne =
     elim (q.at.number == n) as (λ (b : Bool). option_map (λ (r : Pair). r.cell) (cond b (Some q) (find (λ (r : Pair). r.at.number == n) (ps ++ p ∷ []))) ≡ option_map (λ (r : Pair). r.cell) (cond b (Some q) (find (λ (r : Pair). r.at.number == n) ps))) [
@@ -64,11 +64,7 @@ put_writes ps p image =
       }
     ]) refl
 
--- The numbers of the pairs' cells, as a table keeps them.
-abbrev pub numbers_of : List Pair → List ℕ
-numbers_of ps = map (λ (q : Pair). q.at.number) ps
-
-any_right : (b c : Bool) → c ≡ true → (b || c) ≡ true
+pub any_right : (b c : Bool) → c ≡ true → (b || c) ≡ true
 any_right true c e = refl
 any_right false c e = e
 
@@ -76,10 +72,10 @@ neither : (a b : Bool) → (a || b) ≡ false → (a ≡ false) × (b ≡ false)
 neither true b e = cc
 neither false b e = (refl, e)
 
-different-tail : (x : ℕ) (xs : List ℕ) → AreDifferent (x ∷ xs) → AreDifferent xs
+pub different-tail : (x : ℕ) (xs : List ℕ) → AreDifferent (x ∷ xs) → AreDifferent xs
 different-tail x xs d i j hi hj e = let s = d (suc i) (suc j) (omega arith) (omega arith) e in omega arith
 
-different-head : (x : ℕ) (xs : List ℕ) (i : ℕ) → AreDifferent (x ∷ xs) → i < length xs → get_or xs i 0 ≢ x
+pub different-head : (x : ℕ) (xs : List ℕ) (i : ℕ) → AreDifferent (x ∷ xs) → i < length xs → get_or xs i 0 ≢ x
 different-head x xs i d h e = let s = d 0 (suc i) (omega arith) (omega arith) (sym e) in absurd (omega arith)
 
 pub names_at : (ps : List Pair) (i n : ℕ) → i < length (numbers_of ps) → get_or (numbers_of ps) i 0 ≡ n → names ps n ≡ true
@@ -163,11 +159,11 @@ named_when_content (p ∷ ps) n cell e =
     ]) e
 
 -- a put names its own cell, and no other anew
-either : (b c : Bool) → (b || c) ≡ true → (b ≡ true) ⊎ (c ≡ true)
+pub either : (b c : Bool) → (b || c) ≡ true → (b ≡ true) ⊎ (c ≡ true)
 either true c e = inl refl
 either false c e = inr e
 
-named_when_appended : (ps : List Pair) (p : Pair) (n : ℕ) → names (ps ++ p ∷ []) n ≡ true → (names ps n ≡ true) ⊎ (p.at.number ≡ n)
+pub named_when_appended : (ps : List Pair) (p : Pair) (n : ℕ) → names (ps ++ p ∷ []) n ≡ true → (names ps n ≡ true) ⊎ (p.at.number ≡ n)
 named_when_appended [] p n e = elim (either (p.at.number == n) false e) [ inl here ↦ inr (eqb-true p.at.number n here) | inr never ↦ absurd (false≢true never) ]
 named_when_appended (q ∷ ps) p n e = elim (either (q.at.number == n) (names (ps ++ p ∷ []) n) e) [
   | inl here ↦ inl (rw here refl)
@@ -188,3 +184,9 @@ named_with_put ps p n e =
       | true ↦ λ h. inl (named_when_replaced ps p.at.number n p.cell h)
       | false ↦ λ h. named_when_appended ps p n h
     ]) e
+
+pub with_put_named : (ps : List Pair) (p : Pair) → names ps p.at.number ≡ true → with_put ps p ≡ replaced ps p.at.number p.cell
+with_put_named ps p named = rw named refl
+
+pub with_put_fresh : (ps : List Pair) (p : Pair) → names ps p.at.number ≡ false → with_put ps p ≡ ps ++ p ∷ []
+with_put_fresh ps p unnamed = rw unnamed refl

@@ -59,7 +59,7 @@ module _ (bucket : ℕ → ℕ) where
   }
 
   module _ (xs : List ℕ) (n : ℕ) where
-    different-more : AreDifferent xs → ((i : ℕ) → i < length xs → get_or xs i 0 ≢ n) → AreDifferent (xs ++ n ∷ [])
+    pub different-more : AreDifferent xs → ((i : ℕ) → i < length xs → get_or xs i 0 ≢ n) → AreDifferent (xs ++ n ∷ [])
     different-more old fresh i j hi hj e =
         let len = length_push xs n in
         elim (which i (length xs)) [

@@ -1,133 +1,276 @@
--- Plain lists of versions: their nodes and what they list.
-use Rattle.std.proofs.Common.{◌≡◌, ◌≢◌, ◌<◌, ◌≤◌, ◌⊎◌, ◌||◌, ◌==◌, zero, suc, ℕ, List, [], ◌∷◌, length, slice_index, Option, Some, Bool, true, false, cond, inl, inr, refl, sym, ap, subst, ◌∙◌, arith, eq-eqb}
-use Rattle.std.proofs.lemmas.Bool.{ne_eqb, false≢true}
+-- Plain lists: walks through them, and what a put and a remove make of them.
+use Rattle.std.proofs.Common.{◌≡◌, ◌≢◌, ◌<◌, ◌≤◌, ◌+◌, ◌^◌, ◌⊎◌, ◌++◌, zero, suc, ℕ, List, [], ◌∷◌, length, length-append, get_or, slice_get, Option, Some, IsSome, inl, inr, refl, sym, ap, ap₂, subst, ◌∙◌, arith, rules}
 use Rattle.std.proofs.Permutation.{which}
+use Rattle.std.proofs.lemmas.List.{append_assoc, append-nil}
+use Rattle.std.proofs.lemmas.List.Sorted.{IsPermutation-refl, IsPermutation-sym, IsPermutation-cons, IsPermutation-middle, IsPermutation-trans}
 use Rattle.std.specs.List.{Contains}
 use Rattle.std.specs.Option.{option_map_or}
+use Rattle.std.specs.Prelude.{IsPermutation}
 use Rattle.rdb_pages.specs.declared.cell.Cell.{Cell}
 use Rattle.rdb_pages.specs.declared.cell.CellRef.{CellRef}
-use Rattle.rdb_cells.specs.Images.{Image}
-use Rattle.rdb_cells.specs.Index.{HasKind, SameVersionCells, IsOfVersion}
-use Rattle.rdb_cells.specs.Words.{kind_number}
-use Rattle.rdb_cells.specs.PlainList.{word_at, most_nodes, nodes_from, is_among, IsLinked}
-pub use Rattle.rdb_cells.specs.PlainLaws.{among_first, among_later, word_same, nodes_none, nodes_more, nodes_empty, linked_same, nodes_same, map_same, version_same, contains_got, lists_same, plain_starts_empty, plain_rests_on_nodes}
+use Rattle.rdb_pages.specs.Pages.{zero_cell}
+use Rattle.rdb_cells.specs.declared.formats.heads.IndexHead.{IndexHead as Head}
+use Rattle.rdb_cells.specs.declared.formats.patricia.PatriciaEntry.{PatriciaEntry as Entry}
+use Rattle.rdb_cells.specs.declared.kind.Kind.{Kind}
+use Rattle.rdb_cells.specs.declared.kind.Kind.TheVariants as kind
+use Rattle.rdb_cells.specs.HeadFormat.{index_head_in, rooted_head}
+use Rattle.rdb_cells.specs.Images.{Image, IsCell, Writes}
+use Rattle.rdb_cells.specs.Index.{ListsAnew, IsListing, IsStanding}
+use Rattle.rdb_cells.specs.Keys.{Sayings, ListsVersions}
+use Rattle.rdb_cells.specs.Links.{IsAmong, AreOnce, Node, IsNeverZero, IsFunctional, IsHeld, Stand, StandApart, numbers, Placed, elements, start, segment, IsChain}
+use Rattle.rdb_cells.specs.PatriciaFormat.{patricia_entry_in}
+use Rattle.rdb_cells.specs.PlainList.{IsEntry, LeadsTo, AreEntries, IsPlainList, plain_nature, HasEntry, IsEntryAt}
+use Rattle.rdb_cells.specs.References.{IsPageCell, last_page_cell}
+use Rattle.rdb_cells.specs.Words.{kind_number, number_of, IsOfKind, HasKind}
+use Rattle.rdb_cells.proofs.LinkLemmas.{few_below, node_of, one_chain, empty_chain, length_segment, elements_append, stand_parts, segment_append}
+use Rattle.rdb_cells.proofs.ListedLemmas.{contains_either}
 
-pub true_or_false : (b : Bool) → (b ≡ true) ⊎ (b ≡ false)
-true_or_false true = inl refl
-true_or_false false = inr refl
+-- What a cell says is one thing.
+same_cell : (image : Image) (n : ℕ) (c d : Cell) → image n ≡ Some c → image n ≡ Some d → c ≡ d
+same_cell image n c d is also = ap (λ (o : Option Cell). option_map_or (λ e. e) o c) (sym is ∙ also)
 
-pub among_either : (m n : ℕ) (ns : List ℕ) → is_among (m ∷ ns) n ≡ true → (m ≡ n) ⊎ (is_among ns n ≡ true)
-among_either m n ns e = elim (which m n) [
-  | inl same ↦ inl same
-  | inr apart ↦ inr (sym (ap (λ (b : Bool). b || is_among ns n) (ne_eqb m n apart)) ∙ e)
-]
+pub entries_functional : IsFunctional IsEntry
+entries_functional cell a b ks ls first second = (sym first.says ∙ second.says, first.leads ∙ sym second.leads)
 
-pub among_neither : (m n : ℕ) (ns : List ℕ) → is_among (m ∷ ns) n ≡ false → (m ≢ n) × (is_among ns n ≡ false)
-among_neither m n ns e = elim (true_or_false (is_among ns n)) [
-  | inl within ↦ absurd (false≢true (sym e ∙ among_later m n ns within))
-  | inr without ↦ (λ same. false≢true (sym e ∙ subst (λ (k : ℕ). is_among (m ∷ ns) k ≡ true) same (among_first m ns)), without)
-]
+pub entries_never_zero : IsNeverZero IsEntry
+entries_never_zero element links entry = let e = entry.kind in absurd (omega arith)
 
-pub among_not : (m n : ℕ) (ns : List ℕ) → m ≢ n → is_among ns n ≡ false → is_among (m ∷ ns) n ≡ false
-among_not m n ns apart without = rw (ne_eqb m n apart) without
+pub leads_one : (image : Image) (head : ℕ) (a b : CellRef) → LeadsTo image head a → LeadsTo image head b → a ≡ b
+leads_one image head a b first second =
+    let cell = same_cell image head first.cell second.cell first.here second.here in
+    let roots : Some a ≡ Some b = sym first.leads ∙ ap (λ (c : Cell). slice_get (index_head_in c).roots 0) cell ∙ second.leads in
+    ap (λ (o : Option CellRef). option_map_or (λ r. r) o a) roots
 
--- different numbers below a bound are no more than the bound
-abbrev pub AreSmall : ℕ → List ℕ → Type 0
-AreSmall most [] = Unit {0}
-AreSmall most (x ∷ xs) = (x < most) × (is_among xs x ≡ false) × AreSmall most xs
+-- the root that was read from a head
+pub leads_there : (image : Image) (head : ℕ) (first root : CellRef) (cell : Cell) → LeadsTo image head first → image head ≡ Some cell → slice_get (index_head_in cell).roots 0 ≡ Some root → first ≡ root
+leads_there image head first root cell leads here read =
+    leads_one image head first root leads (record { cell = cell; here = here; kind = subst (λ (c : Cell). IsOfKind c kind.IndexHead) (same_cell image head leads.cell cell leads.here here) leads.kind; leads = read })
 
-abbrev without : ℕ → List ℕ → List ℕ
-without m [] = []
-without m (x ∷ xs) = cond (x == m) xs (x ∷ without m xs)
-
-length_without : (m : ℕ) (xs : List ℕ) → length xs ≤ suc (length (without m xs))
-length_without m [] = omega arith
-length_without m (x ∷ xs) =
-    let rest = length_without m xs in
-    elim (x == m) as (λ (b : Bool). suc (length xs) ≤ suc (length (cond b xs (x ∷ without m xs)))) [ true ↦ omega arith | false ↦ omega arith ]
-
-not_in_without : (m n : ℕ) (xs : List ℕ) → is_among xs n ≡ false → is_among (without m xs) n ≡ false
-not_in_without m n [] e = e
-not_in_without m n (x ∷ xs) e =
-    let both = among_neither x n xs e in
-    elim (x == m) as (λ (b : Bool). is_among (cond b xs (x ∷ without m xs)) n ≡ false) [
-      | true ↦ both.1
-      | false ↦ among_not x n (without m xs) both.0 (not_in_without m n xs both.1)
-    ]
-
-narrower : (m : ℕ) (xs : List ℕ) → is_among xs m ≡ false → AreSmall (suc m) xs → AreSmall m xs
-narrower m [] e small = tt
-narrower m (x ∷ xs) e small =
-    let both = among_neither x m xs e in
-    let apart : x ≢ m = both.0 in
-    let below : x < suc m = small.0 in
-    (omega arith, small.1, narrower m xs both.1 small.2)
-
-without_small : (m : ℕ) (xs : List ℕ) → AreSmall (suc m) xs → AreSmall m (without m xs)
-without_small m [] small = tt
-without_small m (x ∷ xs) small = elim (which x m) [
-  | inl same ↦ rw (eq-eqb x m same) (narrower m xs (subst (λ (k : ℕ). is_among xs k ≡ false) same small.1) small.2)
-  | inr apart ↦
-      let below : x < suc m = small.0 in
-      rw (ne_eqb x m apart) (omega arith, not_in_without m x xs small.1, without_small m xs small.2)
-]
-
-pub few_small : (most : ℕ) (xs : List ℕ) → AreSmall most xs → length xs ≤ most
-few_small zero [] small = omega arith
-few_small zero (x ∷ xs) small = let below : x < 0 = small.0 in absurd (omega arith)
-few_small (suc m) xs small =
-    let rest = few_small m (without m xs) (without_small m xs small) in
-    let fewer = length_without m xs in
-    omega arith
-
--- a linked list is what a walk finds
-pub walk_finds : (most : ℕ) (image : Image) (at : ℕ) (ns : List ℕ) → IsLinked image at ns → length ns ≤ most → nodes_from most image at ≡ ns
-walk_finds most image at [] linked few = ap (nodes_from most image) linked ∙ nodes_none most image
-walk_finds zero image at (n ∷ ns) linked few = absurd (omega arith)
-walk_finds (suc most) image at (n ∷ ns) linked few =
-    let some : 0 < n = linked.1 in
-    ap (nodes_from (suc most) image) linked.0
-    ∙ nodes_more most image n (λ none. absurd (omega arith))
-    ∙ ap (λ (rest : List ℕ). n ∷ rest) (walk_finds most image (word_at image 2 n) ns linked.5 (omega arith))
-
-pub small_linked : (image : Image) (at : ℕ) (ns : List ℕ) → IsLinked image at ns → AreSmall most_nodes ns
-small_linked image at [] linked = tt
-small_linked image at (n ∷ ns) linked = (linked.2, linked.4, small_linked image (word_at image 2 n) ns linked.5)
-
-pub walk_whole : (image : Image) (at : ℕ) (ns : List ℕ) → IsLinked image at ns → nodes_from most_nodes image at ≡ ns
-walk_whole image at ns linked = walk_finds most_nodes image at ns linked (few_small most_nodes ns (small_linked image at ns linked))
-
-pub kind_linked : (image : Image) (at : ℕ) (ns : List ℕ) (n : ℕ) → IsLinked image at ns → is_among ns n ≡ true → HasKind image 6 n
-kind_linked image at [] n linked e = cc
-kind_linked image at (m ∷ ns) n linked e = elim (among_either m n ns e) [
-  | inl same ↦ subst (HasKind image 6) same linked.3
-  | inr later ↦ kind_linked image (word_at image 2 m) ns n linked.5 later
-]
-
-pub contains_either : (x : CellRef) (xs : List CellRef) (r : CellRef) → Contains (x ∷ xs) r → (x ≡ r) ⊎ Contains xs r
-contains_either x xs r (zero, below, is) = inl is
-contains_either x xs r (suc k, below, is) = inr (k, omega arith, is)
+pub head_there : (image : Image) (head : ℕ) (first : CellRef) → LeadsTo image head first → IsCell image head
+head_there image head first leads = subst (λ (o : Option Cell). IsSome o) (sym leads.here) (search rules)
 
 -- two kinds at one place are one
-pub one_kind : (image : Image) (k l n : ℕ) → HasKind image k n → HasKind image l n → k ≡ l
-one_kind image k l n a b =
-    let cells : Some a.0 ≡ Some b.0 = sym a.1 ∙ b.1 in
-    sym a.2 ∙ ap (λ (o : Option Cell). option_map_or kind_number o 0) cells ∙ b.2
+pub one_kind : (image : Image) (k l : Kind) (n : ℕ) → HasKind image k n → HasKind image l n → number_of k ≡ number_of l
+one_kind image k l n a b = sym a.2 ∙ ap kind_number (same_cell image n a.0 b.0 a.1 b.1) ∙ b.2
 
-pub word_of : (image : Image) (word n : ℕ) (cell : Cell) → image n ≡ Some cell → word_at image word n ≡ slice_index cell.words word
-word_of image word n cell e = ap (λ (o : Option Cell). option_map_or (λ c. slice_index c.words word) o 0) e
+-- chains of entries
+pub one_entries : (image : Image) (first : ℕ) (xs ys : List (Placed CellRef)) → AreEntries image first xs → AreEntries image first ys → xs ≡ ys
+one_entries image first xs ys a b = one_chain IsEntry entries_functional image xs ys (sym a.chained.begins ∙ b.chained.begins) a.chained.nodes.stand b.chained.nodes.stand
 
--- a place without a row or a header
-abbrev pub NoVersion : Image → ℕ → Type 0
-NoVersion image n = (c : Cell) → image n ≡ Some c → ¬ IsOfVersion c
+few_entries : (image : Image) (first : ℕ) (chain : List (Placed CellRef)) → AreEntries image first chain → length chain ≤ last_page_cell
+few_entries image first chain entries =
+    let ns = numbers (segment chain 0) in
+    let fresh : ¬ IsAmong ns 0 = λ within. (let page = (entries.paged 0 within).0 in absurd (omega arith)) in
+    let below : (n : ℕ) → IsAmong (0 ∷ ns) n → n < suc last_page_cell = λ n within. elim within [
+      | inl same ↦ omega arith
+      | inr later ↦ (let page = (entries.paged n later).1 in omega arith)
+    ] in
+    let few = few_below (suc last_page_cell) (0 ∷ ns) (fresh, entries.chained.nodes.once) below in
+    let long = length_segment chain 0 in
+    omega arith
 
-pub no_version : (image : Image) (k n : ℕ) → HasKind image k n → k ≢ 1 → k ≢ 2 → NoVersion image n
-no_version image k n has not_one not_two c is of_version =
-    let e : k ≡ kind_number c = one_kind image k (kind_number c) n has (c, is, refl) in
-    elim of_version [ inl row ↦ not_one (e ∙ row) | inr header ↦ not_two (e ∙ header) ]
+-- the node of the first of the rest of a chain
+module _ (image : Image) (first : ℕ) (seen : List (Placed CellRef)) (p : Placed CellRef) (ps : List (Placed CellRef)) (entries : AreEntries image first (seen ++ p ∷ ps)) where
+  pub node_there : IsHeld IsEntry image (record { number = p.number; element = p.element; links = start ps 0 ∷ [] })
+  node_there =
+      let split = subst (λ (nodes : List (Node CellRef)). Stand IsEntry image nodes) (segment_append seen (p ∷ ps) 0) entries.chained.nodes.stand in
+      (stand_parts IsEntry image (segment seen p.number) (segment (p ∷ ps) 0) split).1.0
 
-pub same_versions : (a b : Image) → ((n : ℕ) → (b n ≡ a n) ⊎ (NoVersion a n × NoVersion b n)) → SameVersionCells a b
-same_versions a b same n c of_version = elim (same n) [
-  | inl stays ↦ (λ e. stays ∙ e, λ e. sym stays ∙ e)
-  | inr neither ↦ (λ e. absurd (neither.0 c e of_version), λ e. absurd (neither.1 c e of_version))
-]
+  module _ (cell : Cell) (here : image p.number ≡ Some cell) where
+    own_cell : node_there.cell ≡ cell
+    own_cell = same_cell image p.number node_there.cell cell node_there.here here
+
+    pub entry_version : (patricia_entry_in cell).version ≡ p.element
+    entry_version = ap (λ (c : Cell). (patricia_entry_in c).version) (sym own_cell) ∙ node_there.written.says
+
+    pub entry_next : (patricia_entry_in cell).next.number ≡ start ps 0
+    entry_next =
+        let links : start ps 0 ∷ [] ≡ (patricia_entry_in cell).next.number ∷ [] = node_there.written.leads ∙ ap (λ (c : Cell). (patricia_entry_in c).next.number ∷ []) own_cell in
+        sym (ap (λ (ns : List ℕ). get_or ns 0 0) links)
+
+-- a search: the version is in the rest
+pub record IsSought (image : Image) (first : ℕ) (version : CellRef) (count at : ℕ) : Type 0 where
+  pub seen : List (Placed CellRef)
+  pub rest : List (Placed CellRef)
+  pub entries : AreEntries image first (seen ++ rest)
+  pub begins : at ≡ start rest 0
+  pub within : Contains (elements rest) version
+  pub many : length seen ≡ count
+
+pub sought_first : (image : Image) (first : ℕ) (version : CellRef) → HasEntry image first version → IsSought image first version 0 first
+sought_first image first version has = record {
+  seen = [];
+  rest = has.chain;
+  entries = has.entries;
+  begins = has.entries.chained.begins;
+  within = has.within;
+  many = refl;
+}
+
+-- what contains a version has a first element
+some_first : (rest : List (Placed CellRef)) (version : CellRef) → Contains (elements rest) version → (p : Placed CellRef) × (ps : List (Placed CellRef)) × (rest ≡ p ∷ ps)
+some_first [] version within = let below = within.1 in absurd (omega arith)
+some_first (p ∷ ps) version within = (p, ps, refl)
+
+module _ (image : Image) (first : ℕ) (version : CellRef) (count at : ℕ) (so_far : IsSought image first version count at) where
+  found : (p : Placed CellRef) × (ps : List (Placed CellRef)) × (so_far.rest ≡ p ∷ ps)
+  found = some_first so_far.rest version so_far.within
+
+  whole : AreEntries image first (so_far.seen ++ found.0 ∷ found.1)
+  whole = subst (λ (rest : List (Placed CellRef)). AreEntries image first (so_far.seen ++ rest)) found.2 so_far.entries
+
+  here_is : at ≡ found.0.number
+  here_is = so_far.begins ∙ ap (λ (rest : List (Placed CellRef)). start rest 0) found.2
+
+  pub sought_there : IsCell image at
+  sought_there = subst (λ (o : Option Cell). IsSome o) (sym (ap image here_is ∙ (node_there image first so_far.seen found.0 found.1 whole).here)) (search rules)
+
+  module _ (cell : Cell) (here : image at ≡ Some cell) where
+    at_first : image found.0.number ≡ Some cell
+    at_first = ap image (sym here_is) ∙ here
+
+    pub sought_found : (r : CellRef) → r.number ≡ at → (patricia_entry_in cell).version ≡ version → IsEntryAt image first version r
+    sought_found r is same = record {
+      before = so_far.seen;
+      after = found.1;
+      entries =
+          let element : found.0.element ≡ version = sym (entry_version image first so_far.seen found.0 found.1 whole cell at_first) ∙ same in
+          let placed : found.0 ≡ record { number = r.number; element = version } = ap₂ (λ (n : ℕ) (e : CellRef). (let p : Placed CellRef = record { number = n; element = e } in p)) (sym here_is ∙ sym is) element in
+          subst (λ (p : Placed CellRef). AreEntries image first (so_far.seen ++ p ∷ found.1)) placed whole;
+    }
+
+    pub sought_more : (patricia_entry_in cell).version ≢ version → IsSought image first version (count + 1) (patricia_entry_in cell).next.number
+    sought_more other = record {
+      seen = so_far.seen ++ found.0 ∷ [];
+      rest = found.1;
+      entries = subst (λ (chain : List (Placed CellRef)). AreEntries image first chain) (sym (append_assoc so_far.seen (found.0 ∷ []) found.1)) whole;
+      begins = entry_next image first so_far.seen found.0 found.1 whole cell at_first;
+      within = elim (contains_either found.0.element (elements found.1) version (subst (λ (rest : List (Placed CellRef)). Contains (elements rest) version) found.2 so_far.within)) [
+        | inl same ↦ absurd (other (entry_version image first so_far.seen found.0 found.1 whole cell at_first ∙ same))
+        | inr later ↦ later
+      ];
+      many = (let long = length-append so_far.seen (found.0 ∷ []) in let many = so_far.many in omega arith);
+    }
+
+  pub sought_never : count ≡ last_page_cell → ⊥
+  sought_never all =
+      let few = few_entries image first (so_far.seen ++ found.0 ∷ found.1) whole in
+      let long = length-append so_far.seen (found.0 ∷ found.1) in
+      let many = so_far.many in
+      absurd (omega arith)
+
+-- a listing: what was seen is listed
+pub record IsListedTo (image : Image) (first : ℕ) (refs : List CellRef) (count at : ℕ) : Type 0 where
+  pub seen : List (Placed CellRef)
+  pub rest : List (Placed CellRef)
+  pub entries : AreEntries image first (seen ++ rest)
+  pub begins : at ≡ start rest 0
+  pub all : refs ≡ elements seen
+  pub many : length seen ≡ count
+
+pub listed_first : (image : Image) (first : ℕ) (chain : List (Placed CellRef)) → AreEntries image first chain → IsListedTo image first [] 0 first
+listed_first image first chain entries = record {
+  seen = [];
+  rest = chain;
+  entries = entries;
+  begins = entries.chained.begins;
+  all = refl;
+  many = refl;
+}
+
+-- what begins at a number has a first element
+left_first : (rest : List (Placed CellRef)) (at : ℕ) → at ≡ start rest 0 → at ≢ 0 → (p : Placed CellRef) × (ps : List (Placed CellRef)) × (rest ≡ p ∷ ps)
+left_first [] at begins some = absurd (some begins)
+left_first (p ∷ ps) at begins some = (p, ps, refl)
+
+module _ (image : Image) (first : ℕ) (refs : List CellRef) (count at : ℕ) (so_far : IsListedTo image first refs count at) where
+  module _ (some : at ≢ 0) where
+    next : (p : Placed CellRef) × (ps : List (Placed CellRef)) × (so_far.rest ≡ p ∷ ps)
+    next = left_first so_far.rest at so_far.begins some
+
+    all_of : AreEntries image first (so_far.seen ++ next.0 ∷ next.1)
+    all_of = subst (λ (rest : List (Placed CellRef)). AreEntries image first (so_far.seen ++ rest)) next.2 so_far.entries
+
+    stands_at : at ≡ next.0.number
+    stands_at = so_far.begins ∙ ap (λ (rest : List (Placed CellRef)). start rest 0) next.2
+
+    pub listed_there : IsCell image at
+    listed_there = subst (λ (o : Option Cell). IsSome o) (sym (ap image stands_at ∙ (node_there image first so_far.seen next.0 next.1 all_of).here)) (search rules)
+
+    module _ (cell : Cell) (here : image at ≡ Some cell) where
+      at_next : image next.0.number ≡ Some cell
+      at_next = ap image (sym stands_at) ∙ here
+
+      pub listed_more : IsListedTo image first (refs ++ (patricia_entry_in cell).version ∷ []) (count + 1) (patricia_entry_in cell).next.number
+      listed_more = record {
+        seen = so_far.seen ++ next.0 ∷ [];
+        rest = next.1;
+        entries = subst (λ (chain : List (Placed CellRef)). AreEntries image first chain) (sym (append_assoc so_far.seen (next.0 ∷ []) next.1)) all_of;
+        begins = entry_next image first so_far.seen next.0 next.1 all_of cell at_next;
+        all =
+            ap (λ (rs : List CellRef). rs ++ (patricia_entry_in cell).version ∷ []) so_far.all
+            ∙ ap (λ (r : CellRef). elements so_far.seen ++ r ∷ []) (entry_version image first so_far.seen next.0 next.1 all_of cell at_next)
+            ∙ sym (elements_append so_far.seen (next.0 ∷ []));
+        many = (let long = length-append so_far.seen (next.0 ∷ []) in let many = so_far.many in omega arith);
+      }
+
+  -- nothing is left at 0, nor after as many entries as there are cells
+  none_left : at ≡ 0 → so_far.rest ≡ []
+  none_left none =
+      let split = subst (λ (nodes : List (Node CellRef)). Stand IsEntry image nodes) (segment_append so_far.seen so_far.rest 0) so_far.entries.chained.nodes.stand in
+      empty_chain IsEntry image so_far.rest (sym so_far.begins ∙ none) (stand_parts IsEntry image (segment so_far.seen (start so_far.rest 0)) (segment so_far.rest 0) split).1
+
+  none_more : count ≡ last_page_cell → so_far.rest ≡ []
+  none_more all =
+      let few = few_entries image first (so_far.seen ++ so_far.rest) so_far.entries in
+      let long = length-append so_far.seen so_far.rest in
+      let many = so_far.many in
+      by_length so_far.rest (omega arith)
+    where
+      by_length : (rest : List (Placed CellRef)) → length rest ≡ 0 → rest ≡ []
+      by_length [] none = refl
+      by_length (p ∷ ps) none = absurd (omega arith)
+
+  whole_list : so_far.rest ≡ [] → AreEntries image first so_far.seen
+  whole_list none = subst (λ (chain : List (Placed CellRef)). AreEntries image first chain) (append-nil so_far.seen) (subst (λ (rest : List (Placed CellRef)). AreEntries image first (so_far.seen ++ rest)) none so_far.entries)
+
+  module _ (class head : ℕ) (root : CellRef) (is : root.number ≡ first) (leads : LeadsTo image head root) where
+    listing : so_far.rest ≡ [] → IsListing (plain_nature class head) image refs
+    listing none said listed nodes list =
+        let same : list.first.number ≡ first = ap (λ (r : CellRef). r.number) (leads_one image head list.first root list.leads leads) ∙ is in
+        let chain = one_entries image first so_far.seen list.chain (whole_list none) (subst (λ (n : ℕ). AreEntries image n list.chain) same list.entries) in
+        let whole : refs ≡ listed = so_far.all ∙ ap (λ (c : List (Placed CellRef)). elements c) chain ∙ sym list.listed_is in
+        subst (IsPermutation refs) whole (IsPermutation-refl refs)
+
+    pub listed_at_none : at ≡ 0 → IsListing (plain_nature class head) image refs
+    listed_at_none none = listing (none_left none)
+
+    pub listed_at_end : count ≡ last_page_cell → IsListing (plain_nature class head) image refs
+    listed_at_end all = listing (none_more all)
+
+-- references of entries fit 24 bits
+pub small_start : (chain : List (Placed CellRef)) → ((n : ℕ) → IsAmong (numbers (segment chain 0)) n → IsPageCell n) → start chain 0 < 2 ^ 24
+small_start [] paged = omega arith
+small_start (p ∷ ps) paged = let page = (paged p.number (inl refl)).1 in omega arith
+
+pub small_first : (image : Image) (head : ℕ) (first root : CellRef) (cell : Cell) (chain : List (Placed CellRef)) → LeadsTo image head first → AreEntries image first.number chain → image head ≡ Some cell → slice_get (index_head_in cell).roots 0 ≡ Some root → root.number < 2 ^ 24
+small_first image head first root cell chain leads entries here read =
+    let same : first.number ≡ root.number = ap (λ (r : CellRef). r.number) (leads_there image head first root cell leads here read) in
+    let begins = entries.chained.begins in
+    let small = small_start chain entries.paged in
+    omega arith
+
+among_behind : (xs : List (Placed CellRef)) (y : Placed CellRef) (ys : List (Placed CellRef)) (n : ℕ) → IsAmong (numbers (segment ys 0)) n → IsAmong (numbers (segment (xs ++ y ∷ ys) 0)) n
+among_behind [] y ys n within = inr within
+among_behind (p ∷ ps) y ys n within = inr (among_behind ps y ys n within)
+
+module _ (image : Image) (first : ℕ) (version r : CellRef) (at : IsEntryAt image first version r) where
+  pub at_there : IsCell image r.number
+  at_there = subst (λ (o : Option Cell). IsSome o) (sym (node_there image first at.before (record { number = r.number; element = version }) at.after at.entries).here) (search rules)
+
+  pub small_next : (cell : Cell) → image r.number ≡ Some cell → (patricia_entry_in cell).next.number < 2 ^ 24
+  small_next cell here =
+      let x : Placed CellRef = record { number = r.number; element = version } in
+      let next = entry_next image first at.before x at.after at.entries cell here in
+      let small = small_start at.after (λ n within. at.entries.paged n (among_behind at.before x at.after n within)) in
+      omega arith

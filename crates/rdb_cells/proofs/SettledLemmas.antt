@@ -186,3 +186,10 @@ settled_cell rs image n there =
     let P : Option Cell → Type 0 = λ o. IsSome o in
     subst P (sym (settled_reads rs image n))
     (elim (first_content rs n) as (λ (o : Option Cell). P (first_of o (image n))) [ None ↦ there | Some cell ↦ search rules ])
+
+-- where no other record has a pair of a cell, one record settles it
+pub settled_by_one : (older newer : List (List Pair)) (own : List Pair) (image : Image) (n : ℕ) → NoneNames older n → NoneNames newer n → settled (newer ++ own ∷ older) image n ≡ settled (own ∷ []) image n
+settled_by_one older newer own image n none_older none_newer =
+    settled-append newer (own ∷ older) image n
+    ∙ settled-other newer (settled (own ∷ older) image) n none_newer
+    ∙ taken_back-same own (settled older image) image n (settled-other older image n none_older)

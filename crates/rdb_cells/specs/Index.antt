@@ -1,103 +1,130 @@
--- What the keys of versions and the indexes over them promise.
-use Rattle.std.specs.Prelude.{◌≡◌, ◌≢◌, ◌↔◌, ◌⊎◌, ℕ, ◌*◌, ◌%◌, ◌^◌, List, [], ◌∷◌, slice_get, fold, Option, Some, None, IsSome, Bool, true, bit_xor, Contains}
-use Rattle.std.specs.Ordering.{nat_cmp, ordering_then}
-use Rattle.std.specs.declared.cmp.Ordering.{Ordering}
-use Rattle.rdb_base.specs.declared.value.Value.{Value}
-use Rattle.rdb_base.specs.declared.value.Value.TheVariants as value
-use Rattle.rdb_base.specs.declared.value.Leaf.TheVariants as leaf
-use Rattle.rdb_base.specs.declared.value.Rect.{Rect}
-use Rattle.rdb_base.specs.Order.{row_order}
-use Rattle.rdb_pages.specs.declared.cell.Cell.{Cell}
+-- What an index owes.
+use Rattle.std.specs.Prelude.{◌≡◌, ◌⊎◌, ℕ, List, [], ◌∷◌, Some, Bool, true, false, Contains, IsPermutation}
 use Rattle.rdb_pages.specs.declared.cell.CellRef.{CellRef}
 use Rattle.rdb_pages.specs.Pages.{zero_cell}
-use Rattle.rdb_cells.specs.Images.{Image, IsFree}
-use Rattle.rdb_cells.specs.Words.{kind_number}
+use Rattle.rdb_cells.specs.declared.kind.Kind.{Kind}
+use Rattle.rdb_cells.specs.declared.kind.Kind.TheVariants as kind
+use Rattle.rdb_cells.specs.HeadFormat.{index_head_cell, empty_index_head}
+use Rattle.rdb_cells.specs.Images.{Image}
+use Rattle.rdb_cells.specs.Keys.{Meaning, Sayings, says, SaySame, IsUnlisted, ListsVersions}
+use Rattle.rdb_cells.specs.Links.{IsAmong, AreOf, AreOnce, SameOn}
+use Rattle.rdb_cells.specs.Records.{content}
+use Rattle.rdb_cells.specs.Words.{HasKind}
+use Rattle.rdb_cells.specs.Work.{Work, reading, IsBlank}
 
--- a version, as an index over it knows it
-pub record Version : Type 0 where
-  pub key : List Value
-  pub id : ℕ
-  pub serial : ℕ
+-- the kinds of an index's nodes
+abbrev pub is_of_index : Kind → Bool
+is_of_index kind.HashTable = true
+is_of_index kind.HashEntry = true
+is_of_index kind.TreeNode = true
+is_of_index kind.RtreeNode = true
+is_of_index kind.PatriciaBranch = true
+is_of_index kind.PatriciaEntry = true
+is_of_index _ = false
 
--- versions go by key, then id, then serial
-abbrev pub version_order : Version → Version → Ordering
-version_order v w = ordering_then (row_order v.key w.key) (ordering_then (nat_cmp v.id w.id) (nat_cmp v.serial w.serial))
+-- the cell is one of an index's nodes
+abbrev pub IsIndexNode : Image → ℕ → Type 0
+IsIndexNode image n = (of : Kind) × (is_of_index of ≡ true) × HasKind image of n
 
--- a version against a key and, where one is given, then an id
-abbrev pub key_order : Version → List Value → Option ℕ → Ordering
-key_order v key None = row_order v.key key
-key_order v key (Some id) = ordering_then (row_order v.key key) (nat_cmp v.id id)
+-- What an index is: its class, the number of its head, the most free cells that a `put` takes; and the relation that, by what
+-- the keys say, in this image it has its shape, lists these versions, and its nodes beside the head are these cells.
+pub record Nature : Type 1 where
+  pub class : ℕ
+  pub head : ℕ
+  pub part : ℕ
+  pub Stands : Sayings → Image → List CellRef → List ℕ → Type 0
 
--- the hash FNV-1a with 32 bits (Fowler, Noll and Vo)
-abbrev pub fnv_step : ℕ → ℕ → ℕ
-fnv_step hash byte = bit_xor hash byte * 16777619 % 2 ^ 32
+-- by its keys the index lists these versions in these nodes
+abbrev pub Lists : Nature → Meaning → Image → List CellRef → List ℕ → Type 0
+Lists index keys image listed nodes = index.Stands (says keys image) image listed nodes
 
-abbrev pub fnv1a : List ℕ → ℕ
-fnv1a bytes = fold fnv_step 2166136261 bytes
+-- whatever versions the index lists by its keys, and in whichever nodes, this holds
+abbrev pub WhateverListed : Nature → Meaning → Image → (List CellRef → List ℕ → Type 0) → Type 0
+WhateverListed index keys image Holds = (listed : List CellRef) (nodes : List ℕ) → Lists index keys image listed nodes → Holds listed nodes
 
--- a cell of a row or of a version's header
-abbrev pub IsOfVersion : Cell → Type 0
-IsOfVersion cell = (kind_number cell ≡ 1) ⊎ (kind_number cell ≡ 2)
+-- the index stands, and the version has a key and isn't listed yet
+pub record LacksVersion (index : Nature) (keys : Meaning) (image : Image) (version : CellRef) : Type 0 where
+  pub listed : List CellRef
+  pub nodes : List ℕ
+  pub lists : Lists index keys image listed nodes
+  pub unlisted : IsUnlisted (says keys image) listed version
 
--- two images hold the same cells of rows and headers
-abbrev pub SameVersionCells : Image → Image → Type 0
-SameVersionCells a b = (n : ℕ) (cell : Cell) → IsOfVersion cell → (a n ≡ Some cell) ↔ (b n ≡ Some cell)
+-- the index stands, and the version is listed
+pub record HasVersion (index : Nature) (keys : Meaning) (image : Image) (version : CellRef) : Type 0 where
+  pub listed : List CellRef
+  pub nodes : List ℕ
+  pub lists : Lists index keys image listed nodes
+  pub within : Contains listed version
 
--- the number is that of a cell of the kind
-abbrev pub HasKind : Image → ℕ → ℕ → Type 0
-HasKind image kind n = (cell : Cell) × (image n ≡ Some cell) × (kind_number cell ≡ kind)
+-- each node that came was free, each that went reads as zero, and a free cell is a node now or reads as before
+pub record KeepsAccount (before after : Work) (nodes now_nodes : List ℕ) : Type 0 where
+  pub come : (n : ℕ) → IsAmong now_nodes n → IsAmong nodes n ⊎ IsBlank before n
+  pub gone : (n : ℕ) → IsAmong nodes n → IsAmong now_nodes n ⊎ (reading after n ≡ Some zero_cell)
+  pub filled : (n : ℕ) → IsBlank before n → IsAmong now_nodes n ⊎ (reading after n ≡ reading before n)
 
--- what the keys of an index say of an image: the version of each number, if it is that of a version with a key, and the hash
--- of each key
-pub record Sayings : Type 0 where
-  pub version_of : ℕ → Option Version
-  pub hash_of : List Value → ℕ
+-- the index lists other versions now, in other nodes
+pub record ListsAnew (index : Nature) (keys : Meaning) (before after : Work) (nodes : List ℕ) : Type 0 where
+  pub listed : List CellRef
+  pub now_nodes : List ℕ
+  pub lists : Lists index keys (reading after) listed now_nodes
+  pub account : KeepsAccount before after nodes now_nodes
 
--- two sayings are the same of these versions and of all hashes
-pub record SaySame (s t : Sayings) (listed : List CellRef) : Type 0 where
-  pub versions : (r : CellRef) → Contains listed r → t.version_of r.number ≡ s.version_of r.number
-  pub hashes : (key : List Value) → t.hash_of key ≡ s.hash_of key
+-- the version came to those that were listed, if it wasn't
+abbrev pub Puts : Nature → Meaning → Work → Work → CellRef → Type 0
+Puts index keys before after version = WhateverListed index keys (reading before) (λ listed nodes.
+    IsUnlisted (says keys (reading before)) listed version →
+    (now : ListsAnew index keys before after nodes) × IsPermutation (version ∷ listed) now.listed)
 
--- a version with a key that isn't listed, neither itself nor by its id and serial
-pub record IsUnlisted (s : Sayings) (listed : List CellRef) (version : CellRef) : Type 0 where
-  pub keyed : IsSome (s.version_of version.number)
-  pub itself : ¬ Contains listed version
-  pub otherwise : (r : CellRef) (v w : Version) → Contains listed r → s.version_of version.number ≡ Some v → s.version_of r.number ≡ Some w → w.id ≡ v.id → w.serial ≢ v.serial
+-- the version went from those that were listed, if it was there, and no node came
+abbrev pub Removes : Nature → Meaning → Work → Work → CellRef → Type 0
+Removes index keys before after version = WhateverListed index keys (reading before) (λ listed nodes.
+    Contains listed version →
+    (now : ListsAnew index keys before after nodes) × IsPermutation (version ∷ now.listed) listed × AreOf nodes now.now_nodes)
 
--- each cell that differs was the head, a node, or free in a page of the class
-abbrev pub ChangesOnlyOwn : Image → Image → (ℕ → Option ℕ) → ℕ → ℕ → (ℕ → Bool) → Type 0
-ChangesOnlyOwn before after class_of of head is_node = (n : ℕ) → after n ≢ before n → (n ≡ head) ⊎ (is_node n ≡ true) ⊎ IsFree before class_of of n
+-- a cell of the index: its head, a node, or a free cell of the class
+abbrev pub IsOwn : Nature → List ℕ → Work → ℕ → Type 0
+IsOwn index nodes w n = (n ≡ index.head) ⊎ IsAmong nodes n ⊎ IsBlank w n
 
--- each cell that the change gave the index is a node of it now, and each that it gave up is free
-pub record KeepsAccount (before after : Image) (class_of : ℕ → Option ℕ) (of : ℕ) (was_node is_node : ℕ → Bool) : Type 0 where
-  pub come : (n : ℕ) → is_node n ≡ true → (was_node n ≡ true) ⊎ IsFree before class_of of n
-  pub gone : (n : ℕ) → was_node n ≡ true → (is_node n ≡ true) ⊎ (after n ≡ Some zero_cell)
-  pub filled : (n : ℕ) → IsFree before class_of of n → (is_node n ≡ true) ⊎ (after n ≡ before n)
+-- of every cell that isn't one of the index, the plan says what it said before, if anything
+abbrev pub PlansOnlyOwn : Nature → Meaning → Work → Work → Type 0
+PlansOnlyOwn index keys before after = WhateverListed index keys (reading before) (λ listed nodes.
+    (n : ℕ) → (content after.pairs n ≡ content before.pairs n) ⊎ IsOwn index nodes before n)
 
--- the head and every node hold the same
-pub record SameNodes (a b : Image) (head : ℕ) (is_node : ℕ → Bool) : Type 0 where
-  pub same_head : b head ≡ a head
-  pub nodes : (n : ℕ) → is_node n ≡ true → b n ≡ a n
+-- whatever the keys say and in whichever nodes, the index lists these versions in some order
+abbrev pub IsListing : Nature → Image → List CellRef → Type 0
+IsListing index image refs = (said : Sayings) (listed : List CellRef) (nodes : List ℕ) →
+    index.Stands said image listed nodes → IsPermutation refs listed
 
--- the head of an index that lists nothing: its kind, and zeros
-abbrev pub empty_head : Cell
-empty_head = record { words = 11 ∷ 0 ∷ 0 ∷ 0 ∷ 0 ∷ 0 ∷ 0 ∷ 0 ∷ 0 ∷ 0 ∷ 0 ∷ 0 ∷ 0 ∷ 0 ∷ 0 ∷ 0 ∷ [] }
+-- the index stands, by what some keys say
+abbrev pub IsStanding : Nature → Image → Type 0
+IsStanding index image =
+    (said : Sayings) × (listed : List CellRef) × (nodes : List ℕ) × index.Stands said image listed nodes
 
--- the bytes of a key that is one text
-abbrev pub text_of : List Value → Option (List ℕ)
-text_of (value.Leaf (leaf.Text bytes) ∷ []) = Some bytes
-text_of _ = None
+-- the head is one of an index, and the nodes are nodes of one, each once
+pub record AreIndexCells (image : Image) (at : ℕ) (ns : List ℕ) : Type 0 where
+  pub head : HasKind image kind.IndexHead at
+  pub nodes : (n : ℕ) → IsAmong ns n → IsIndexNode image n
+  pub once : AreOnce ns
 
--- the box of a key that is one box
-abbrev pub box_of : List Value → Option Rect
-box_of (value.Leaf (leaf.Rect rect) ∷ []) = Some rect
-box_of _ = None
+-- an empty head stands for an index that lists nothing and has no node
+abbrev pub StartsEmpty : Nature → Type 0
+StartsEmpty index = (said : Sayings) (image : Image) →
+    image index.head ≡ Some (index_head_cell empty_index_head) → index.Stands said image [] []
 
--- what keys say of an image, put together from what they say of each image and of each key's encoding
-abbrev pub said_by : (Image → ℕ → Option Version) → (List Value → List ℕ) → Image → Sayings
-said_by version_of encoding image = record { version_of = version_of image; hash_of = λ key. fnv1a (encoding key) }
+-- whatever an index is by some keys in some image, this holds of it
+abbrev pub Wherever : Nature → (Sayings → Image → List CellRef → List ℕ → Type 0) → Type 0
+Wherever index Holds = (said : Sayings) (image : Image) (listed : List CellRef) (nodes : List ℕ) →
+    index.Stands said image listed nodes → Holds said image listed nodes
 
--- each listed version has a key, and no two have one id and serial, or are the same
-pub record ListsVersions (s : Sayings) (listed : List CellRef) : Type 0 where
-  pub keyed : (r : CellRef) → Contains listed r → IsSome (s.version_of r.number)
-  pub differ : (i j : ℕ) (q r : CellRef) (v w : Version) → slice_get listed i ≡ Some q → slice_get listed j ≡ Some r → s.version_of q.number ≡ Some v → s.version_of r.number ≡ Some w → v.id ≡ w.id → v.serial ≡ w.serial → i ≡ j
+-- each listed version has a key, and no two are the same or have one id and serial
+abbrev pub ListsOnce : Nature → Type 0
+ListsOnce index = Wherever index (λ said image listed nodes. ListsVersions said listed)
+
+-- the cells are those of an index
+abbrev pub HasIndexCells : Nature → Type 0
+HasIndexCells index = Wherever index (λ said image listed nodes. AreIndexCells image index.head nodes)
+
+-- what an index is rests on its head and its nodes, and on what the keys say of the versions that it lists
+abbrev pub RestsOnNodes : Nature → Type 0
+RestsOnNodes index = Wherever index (λ said image listed nodes. (again : Sayings) (after : Image) →
+    SaySame said again listed → SameOn (index.head ∷ nodes) image after → index.Stands again after listed nodes)

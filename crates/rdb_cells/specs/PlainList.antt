@@ -1,46 +1,56 @@
--- A plain list of versions in cells: the head leads to the first node, each node to its version and to the next node.
-use Rattle.std.specs.Prelude.{◌≡◌, ◌<◌, ◌==◌, ℕ, zero, suc, List, [], ◌∷◌, map, Bool, false, slice_index, if◌then◌else◌}
-use Rattle.std.specs.List.{list_any}
-use Rattle.std.specs.Option.{option_map_or}
+-- A plain list of versions in cells: the head leads to the first entry, and each entry to the next.
+use Rattle.std.specs.Prelude.{◌≡◌, ℕ, List, [], ◌∷◌, ◌++◌, slice_get, Some, Contains}
+use Rattle.rdb_pages.specs.declared.cell.Cell.{Cell}
 use Rattle.rdb_pages.specs.declared.cell.CellRef.{CellRef}
+use Rattle.rdb_cells.specs.declared.kind.Kind.TheVariants as kind
+use Rattle.rdb_cells.specs.HeadFormat.{index_head_in}
 use Rattle.rdb_cells.specs.Images.{Image}
-use Rattle.rdb_cells.specs.Index.{HasKind, Sayings, ListsVersions}
+use Rattle.rdb_cells.specs.Index.{Nature}
+use Rattle.rdb_cells.specs.Keys.{Sayings, ListsVersions}
+use Rattle.rdb_cells.specs.Links.{IsAmong, Placed, elements, segment, numbers, IsChain}
+use Rattle.rdb_cells.specs.PatriciaFormat.{patricia_entry_in}
+use Rattle.rdb_cells.specs.References.{IsPageCell}
+use Rattle.rdb_cells.specs.Words.{IsOfKind}
 
--- a word of a cell, and 0 where there is no cell
-abbrev pub word_at : Image → ℕ → ℕ → ℕ
-word_at image word n = option_map_or (λ c. slice_index c.words word) (image n) 0
+-- the cell is the entry of a version, and leads to the next one
+pub record IsEntry (cell : Cell) (version : CellRef) (links : List ℕ) : Type 0 where
+  pub kind : IsOfKind cell kind.PatriciaEntry
+  pub says : (patricia_entry_in cell).version ≡ version
+  pub leads : links ≡ (patricia_entry_in cell).next.number ∷ []
 
--- the numbers of nodes are below this
-abbrev pub most_nodes : ℕ
-most_nodes = 4294967296
+-- the head of an index stands there, and its first root is this one
+pub record LeadsTo (image : Image) (head : ℕ) (first : CellRef) : Type 0 where
+  pub cell : Cell
+  pub here : image head ≡ Some cell
+  pub kind : IsOfKind cell kind.IndexHead
+  pub leads : slice_get (index_head_in cell).roots 0 ≡ Some first
 
--- the nodes from a number on, at most so many; 0 is none
-unfoldable pub nodes_from : ℕ → Image → ℕ → List ℕ
-nodes_from zero image at = []
-nodes_from (suc most) image at = if at == 0 then [] else (at ∷ nodes_from most image (word_at image 2 at))
+-- from this number on entries stand in page cells, one for each version
+pub record AreEntries (image : Image) (first : ℕ) (chain : List (Placed CellRef)) : Type 0 where
+  pub chained : IsChain IsEntry image first chain
+  pub paged : (n : ℕ) → IsAmong (numbers (segment chain 0)) n → IsPageCell n
 
--- the nodes of the list whose head this is
-abbrev pub nodes_of : Image → ℕ → List ℕ
-nodes_of image head = nodes_from most_nodes image (word_at image 1 head)
+-- the head leads to entries of these versions, which stand in these cells, and the versions are listed as an index lists them
+pub record IsPlainList (head : ℕ) (said : Sayings) (image : Image) (listed : List CellRef) (nodes : List ℕ) : Type 0 where
+  pub first : CellRef
+  pub chain : List (Placed CellRef)
+  pub leads : LeadsTo image head first
+  pub entries : AreEntries image first.number chain
+  pub listed_is : listed ≡ elements chain
+  pub nodes_are : nodes ≡ numbers (segment chain 0)
+  pub versions : ListsVersions said listed
 
--- the version of a node
-abbrev pub version_at : Image → ℕ → CellRef
-version_at image n = record { number = word_at image 1 n }
+abbrev pub plain_nature : ℕ → ℕ → Nature
+plain_nature class head = record { class = class; head = head; part = 1; Stands = IsPlainList head }
 
-abbrev pub versions_of : Image → ℕ → List CellRef
-versions_of image head = map (version_at image) (nodes_of image head)
+-- the version has an entry in one of the cells from this number on
+pub record HasEntry (image : Image) (first : ℕ) (version : CellRef) : Type 0 where
+  pub chain : List (Placed CellRef)
+  pub entries : AreEntries image first chain
+  pub within : Contains (elements chain) version
 
--- the number is one of these
-abbrev pub is_among : List ℕ → ℕ → Bool
-is_among ns n = list_any (λ m. m == n) ns
-
--- from a number on each node leads to the next, the last one to none, and no two are one cell
-abbrev pub IsLinked : Image → ℕ → List ℕ → Type 0
-IsLinked image at [] = at ≡ 0
-IsLinked image at (n ∷ ns) = (at ≡ n) × (0 < n) × (n < most_nodes) × HasKind image 6 n × (is_among ns n ≡ false) × IsLinked image (word_at image 2 n) ns
-
--- the head is one of an index, its nodes are linked, and the versions are listed as an index lists them
-pub record IsPlainList (said : Sayings) (image : Image) (head : ℕ) : Type 0 where
-  pub kind : HasKind image 11 head
-  pub linked : IsLinked image (word_at image 1 head) (nodes_of image head)
-  pub versions : ListsVersions said (versions_of image head)
+-- the version's entry is the one in the cell
+pub record IsEntryAt (image : Image) (first : ℕ) (version at : CellRef) : Type 0 where
+  pub before : List (Placed CellRef)
+  pub after : List (Placed CellRef)
+  pub entries : AreEntries image first (before ++ record { number = at.number; element = version } ∷ after)

@@ -1,15 +1,25 @@
 -- Undo records, and the settled image: the one that is left when the records are taken back.
-use Rattle.std.specs.Prelude.{◌≡◌, ◌==◌, ℕ, List, [], ◌∷◌, ◌++◌, Option, Some, None, Bool, true, false, find, map, if◌then◌else◌}
+use Rattle.std.specs.Prelude.{◌≡◌, ◌≢◌, ◌≤◌, ◌⊎◌, ◌==◌, length, ℕ, List, [], ◌∷◌, ◌++◌, Option, Some, None, Bool, true, false, find, map, if◌then◌else◌}
 use Rattle.std.specs.List.{list_any}
 use Rattle.std.specs.Option.{option_map}
 use Rattle.rdb_pages.specs.declared.cell.Cell.{Cell}
 use Rattle.rdb_cells.specs.declared.pairs.Pair.{Pair}
 use Rattle.rdb_cells.specs.Images.{Image, SameImage, Writes}
+use Rattle.rdb_cells.specs.Places.{AreDifferent}
 
 -- pairs of cells and contents, oldest first, and how many may be held
 pub record Record : Type 0 where
   pub pairs : List Pair
   pub room : ℕ
+
+-- the numbers of the pairs' cells
+abbrev pub numbers_of : List Pair → List ℕ
+numbers_of pairs = map (λ p. p.at.number) pairs
+
+-- each cell has one pair, and there is room for all
+pub record IsRecord (r : Record) : Type 0 where
+  pub once : AreDifferent (numbers_of r.pairs)
+  pub within : length r.pairs ≤ r.room
 
 -- some pair is one of this cell
 abbrev pub names : List Pair → ℕ → Bool
@@ -43,6 +53,11 @@ first_of (Some cell) other = Some cell
 -- what the cells will hold once the pairs are written
 abbrev pub planned : List Pair → Image → Image
 planned pairs image n = first_of (content pairs n) (image n)
+
+-- of the pairs, these are left, in their order: those whose content their cell doesn't hold
+abbrev pub AreChanges : Image → List Pair → List Pair → Type 0
+AreChanges image [] left = left ≡ []
+AreChanges image (p ∷ ps) left = ((image p.at.number ≡ Some p.cell) × AreChanges image ps left) ⊎ ((rest : List Pair) × (image p.at.number ≢ Some p.cell) × (left ≡ p ∷ rest) × AreChanges image ps rest)
 
 -- the image with the pair's content in its cell
 abbrev pub with_pair : Pair → Image → Image

@@ -5,7 +5,7 @@ ghost use Rattle.rdb_cells.specs.Images.{Image, IsCell, IsFree};
 ghost use Rattle.rdb_cells.specs.Records.{names, some_names};
 
 use crate::cells::Cells;
-use crate::pairs::Pair;
+use crate::pairs::{HasPairs, Pair};
 use crate::undo::Undo;
 use rdb_pages::CellRef;
 
@@ -77,7 +77,8 @@ pub(crate) fn lowest_logged<L: Layer>(
     records: &[&Undo],
 ) -> Option<CellRef>
     requires { (n : ℕ) → some_names (map (λ r. r.now.pairs) records.now) n ≡ true → IsCell (L.image layer.now) n }
-    ensures { IsLowestAmong (L.image layer.now) (L.class_of layer.now) class above.number (λ n. some_names (map (λ r. r.now.pairs) records.now) n ≡ true) result }
+    ensures { IsLowestAmong (L.image layer.now) (L.class_of layer.now) class above.number (λ n. some_names (map
+        (λ r. r.now.pairs) records.now) n ≡ true) result }
 {
     let mut best = None;
     for record in records {
@@ -95,7 +96,8 @@ pub(crate) fn lowest_below<L: Layer, C: Cells>(
     above: CellRef,
 ) -> Option<CellRef>
     requires { (n : ℕ) → IsFree (C.image below.now) (C.class_of below.now) class n → IsCell (L.image layer.now) n }
-    ensures { IsLowestAmong (L.image layer.now) (L.class_of layer.now) class above.number (IsFree (C.image below.now) (C.class_of below.now) class) result }
+    ensures { IsLowestAmong (L.image layer.now) (L.class_of layer.now) class above.number (IsFree (C.image below.now)
+        (C.class_of below.now) class) result }
 {
     let mut last = above;
     while let Some(next) = below.free_after(class, last) {

@@ -1,7 +1,16 @@
-//! What the words of a cell say of it: its kind, the rest of its first word, and numbers of two words.
-ghost use Rattle.std.specs.Prelude.{◌≡◌, ◌<◌, MatchOption, IsTrue, ◌↔◌};
+//! The kinds of cells. The kind of a cell is the lowest 8 bits of its first word; no other module knows the numbers.
+//!
+//! | Number | Kind           | Number | Kind             |
+//! |--------|----------------|--------|------------------|
+//! | 0      | free           | 6      | tree node        |
+//! | 1      | row            | 7      | R-tree node      |
+//! | 2      | version header | 8      | Patricia branch  |
+//! | 3      | object slot    | 9      | Patricia entry   |
+//! | 4      | hash table     | 10     | class head       |
+//! | 5      | hash entry     | 11     | index head       |
+ghost use Rattle.std.specs.Prelude.{◌≡◌, MatchOption, IsTrue, ◌↔◌};
 ghost use Rattle.rdb_pages.specs.Pages.{zero_cell};
-ghost use Rattle.rdb_cells.specs.Words.{IsKind, kind_number, high_of, wide_of};
+ghost use Rattle.rdb_cells.specs.Words.{IsOfKind, number_of};
 
 use rdb_pages::Cell;
 
@@ -22,46 +31,52 @@ pub enum Kind {
     IndexHead,
 }
 
+impl Kind {
+    /// Returns the kind of a cell, and `None` where its number is that of no kind.
+    pub fn of(cell: &Cell) -> Option<Kind>
+        ensures { MatchOption result ((kind : Kind) → ¬ IsOfKind cell.now kind) (IsOfKind cell.now) }
+    {
+        match cell.words[0] % 256 {
+            0 => Some(Kind::Free),
+            1 => Some(Kind::Row),
+            2 => Some(Kind::Version),
+            3 => Some(Kind::Object),
+            4 => Some(Kind::HashTable),
+            5 => Some(Kind::HashEntry),
+            6 => Some(Kind::TreeNode),
+            7 => Some(Kind::RtreeNode),
+            8 => Some(Kind::PatriciaBranch),
+            9 => Some(Kind::PatriciaEntry),
+            10 => Some(Kind::ClassHead),
+            11 => Some(Kind::IndexHead),
+            _ => None,
+        }
+    }
+
+    /// Returns the number of the kind.
+    pub fn number(self) -> u32
+        ensures { result ≡ number_of self }
+    {
+        match self {
+            Kind::Free => 0,
+            Kind::Row => 1,
+            Kind::Version => 2,
+            Kind::Object => 3,
+            Kind::HashTable => 4,
+            Kind::HashEntry => 5,
+            Kind::TreeNode => 6,
+            Kind::RtreeNode => 7,
+            Kind::PatriciaBranch => 8,
+            Kind::PatriciaEntry => 9,
+            Kind::ClassHead => 10,
+            Kind::IndexHead => 11,
+        }
+    }
+}
+
 /// Returns whether the cell is all zero, and so free.
 pub fn is_zero(cell: &Cell) -> bool
     ensures { IsTrue result ↔ (cell.now ≡ zero_cell) }
 {
     *cell == Cell::ZERO
-}
-
-/// Returns the cell's kind, and `None` where its number is that of no kind. The number is the lowest 8 bits of the first
-/// word: 0 for `Free`, and so on in the order of `Kind`.
-pub fn kind_of(cell: &Cell) -> Option<Kind>
-    ensures { MatchOption result (11 < kind_number cell.now) (IsKind (kind_number cell.now)) }
-{
-    match cell.words[0] % 256 {
-        0 => Some(Kind::Free),
-        1 => Some(Kind::Row),
-        2 => Some(Kind::Version),
-        3 => Some(Kind::Object),
-        4 => Some(Kind::HashTable),
-        5 => Some(Kind::HashEntry),
-        6 => Some(Kind::TreeNode),
-        7 => Some(Kind::RtreeNode),
-        8 => Some(Kind::PatriciaBranch),
-        9 => Some(Kind::PatriciaEntry),
-        10 => Some(Kind::ClassHead),
-        11 => Some(Kind::IndexHead),
-        _ => None,
-    }
-}
-
-/// Returns the upper 24 bits of the cell's first word.
-pub fn high(cell: &Cell) -> u32
-    ensures { result ≡ high_of cell.now }
-{
-    cell.words[0] / 256
-}
-
-/// Returns the 64-bit number in the word and the one after it, the lower half first.
-pub fn wide(cell: &Cell, word: usize) -> u64
-    requires { word < 15 }
-    ensures { result ≡ wide_of cell.now word }
-{
-    cell.words[word] as u64 + 4_294_967_296 * (cell.words[word + 1] as u64)
 }

@@ -3,6 +3,10 @@
 #![tactic(auto)]
 
 mod cells;
+pub mod doubles;
+#[cfg(test)]
+mod format_tests;
+mod formats;
 mod free;
 mod index;
 #[cfg(test)]
@@ -13,31 +17,37 @@ mod keys;
 mod kind;
 mod laws;
 mod log;
-mod memory;
-#[cfg(test)]
-mod one_key;
 mod overlay;
 mod pairs;
+mod parts;
 mod places;
-#[cfg(test)]
-mod plain_list;
 mod plan;
 mod reference;
+mod seen;
 mod settled;
 #[cfg(test)]
 mod tests;
 mod undo;
 
 pub use cells::{Cells, Region};
+pub use formats::{
+    ClassHead, HashEntry, HashTable, INDEX_ROOTS, IndexHead, ObjectSlot, PatriciaBranch,
+    PatriciaEntry, ROW_CELL_BYTES, RTREE_ENTRIES, RowCell, RtreeNode, SLOT_CHILDREN, TABLE_BUCKETS,
+    TREE_CHILDREN, TREE_KEYS, TreeNode, VersionHeader,
+};
 pub use index::{Index, Refs};
 pub use keys::Keys;
-pub use kind::{Kind, high, is_zero, kind_of, wide};
-pub use laws::records_go_back_in_any_order;
+pub use kind::{Kind, is_zero};
+pub use laws::{one_record_settles_its_cells, records_go_back_in_any_order};
 pub use log::{log_write, take_back};
-pub use memory::MemoryCells;
 pub use overlay::Overlay;
-pub use pairs::Pair;
+pub use pairs::{HasPairs, Pair, Pairs};
+pub use parts::{HASH_PART, PATRICIA_PART, RTREE_PART, TREE_PART};
 pub use plan::{MAX_PLAN, Plan};
-pub use reference::{HEADS, NONE, class_head, index_head};
+pub use reference::{
+    FIRST_HEAD, HEADS_OF_A_CLASS, LAST_HEAD, LAST_PAGE_CELL, NONE, class_head, class_of_head,
+    index_head, is_head, is_page_cell,
+};
+pub use seen::Seen;
 pub use settled::Settled;
 pub use undo::Undo;

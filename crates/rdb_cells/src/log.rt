@@ -4,7 +4,7 @@ ghost use Rattle.rdb_cells.specs.Images.{IsCell, Writes};
 ghost use Rattle.rdb_cells.specs.Records.{names, Logs, KeepsSettled, TakesBack};
 
 use crate::cells::{Cells, Region};
-use crate::pairs::Pair;
+use crate::pairs::{HasPairs, Pair};
 use crate::undo::Undo;
 use rdb_pages::{Cell, CellRef};
 
@@ -15,7 +15,7 @@ fn log<C: Cells>(cells: &C, undo: &mut Undo, at: CellRef)
     ensures { Logs undo.old undo.new (C.image cells.now) at.number }
 {
     if !undo.has(at) {
-        let cell = cells.read(at);
+        let cell = *cells.read(at);
         undo.push(Pair { at, cell });
     }
 }
@@ -28,6 +28,7 @@ pub fn log_write<C: Region>(cells: &mut C, undo: &mut Undo, at: CellRef, cell: C
     requires room { names undo.old.pairs at.number ≡ false → length undo.old.pairs < undo.old.room }
     ensures written { Writes (C.Cells.image cells.old) (C.Cells.image cells.new) at.number cell }
     ensures classes { (n : ℕ) → C.Cells.class_of cells.new n ≡ C.Cells.class_of cells.old n }
+    ensures owners { C.owners cells.new ≡ C.owners cells.old }
     ensures logged { Logs undo.old undo.new (C.Cells.image cells.old) at.number }
     ensures settled { KeepsSettled undo.old.pairs undo.new.pairs (C.Cells.image cells.old) (C.Cells.image cells.new) at.number }
 {
@@ -42,6 +43,7 @@ pub fn take_back<C: Region>(cells: &mut C, undo: &mut Undo)
     requires { IsSomeAnd (slice_get undo.old.pairs (length undo.old.pairs - 1)) (λ p. IsCell (C.Cells.image cells.old) p.at.number) }
     ensures back { TakesBack undo.old undo.new (C.Cells.image cells.old) (C.Cells.image cells.new) }
     ensures classes { (n : ℕ) → C.Cells.class_of cells.new n ≡ C.Cells.class_of cells.old n }
+    ensures owners { C.owners cells.new ≡ C.owners cells.old }
 {
     let pair = undo.pop();
     cells.write(pair.at, pair.cell);

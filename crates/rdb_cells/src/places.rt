@@ -15,18 +15,17 @@ pub(crate) struct Places {
     numbers: Vec<u32>,
     links: Vec<usize>,
     heads: Vec<usize>,
-    room: usize,
 }
 
 impl Model for Places {
-    ghost use Rattle.std.specs.Prelude.{◌≤◌, ◌<◌, length, vec_capacity};
+    ghost use Rattle.std.specs.Prelude.{◌≤◌, length, vec_capacity};
     ghost use Rattle.rdb_cells.specs.Places.{Numbers, IsChained, bucket_of};
 
     ghost Value = { Numbers };
 
-    ghost view = { λ p. record { numbers = p.numbers.items; room = p.room } };
+    ghost view = { λ p. record { numbers = p.numbers.items; room = length p.heads.items } };
 
-    ghost invariant = { λ p. (length p.numbers.items ≤ p.room) × (p.room ≤ vec_capacity p.numbers) × (p.room ≤ vec_capacity p.links) × (0 < length p.heads.items) × IsChained (bucket_of (length p.heads.items)) p.numbers.items p.links.items p.heads.items };
+    ghost invariant = { λ p. (length p.numbers.items ≤ length p.heads.items) × (length p.heads.items ≤ vec_capacity p.numbers) × (length p.heads.items ≤ vec_capacity p.links) × IsChained (bucket_of (length p.heads.items)) p.numbers.items p.links.items p.heads.items };
 }
 
 /// Returns the bucket of a number, by multiplicative hashing.
@@ -46,16 +45,33 @@ impl Places {
         Ok(Places {
             numbers: Vec::with_capacity(alloc, count)?,
             links: Vec::with_capacity(alloc, count)?,
-            heads: vec![in alloc; 0usize; if count == 0 { 1 } else { count }]?,
-            room: count,
+            heads: vec![in alloc; 0usize; count]?,
         })
+    }
+
+    /// Makes a list without room. It takes no memory.
+    pub(crate) fn empty(alloc: Global) -> Places
+        ensures { result ≡ record { numbers = []; room = 0 } }
+    {
+        Places {
+            numbers: Vec::new(alloc),
+            links: Vec::new(alloc),
+            heads: Vec::new(alloc),
+        }
+    }
+
+    /// Says that no two numbers are equal. It does nothing.
+    pub(crate) fn differ(&self)
+        ensures { AreDifferent self.now.numbers }
+    {
+        let _ = &self.numbers;
     }
 
     /// Returns how many numbers there is room for in all.
     pub(crate) fn room(&self) -> usize
         ensures { result ≡ self.now.room }
     {
-        self.room
+        self.heads.len()
     }
 
     /// Returns the place of the number, if it is there.
@@ -64,6 +80,9 @@ impl Places {
         ensures none { IfNone result ((i : ℕ) → i < length self.now.numbers → slice_index self.now.numbers i ≢ number) }
         ensures differ { AreDifferent self.now.numbers }
     {
+        if self.numbers.is_empty() {
+            return None;
+        }
         let mut link = self.heads[bucket(number, self.heads.len())];
         while link > 0 {
             let place = link - 1;
@@ -85,6 +104,15 @@ impl Places {
         let _linked = self.links.push(self.heads[head]);
         let _kept = self.numbers.push(number);
         self.heads[head] = self.numbers.len();
+    }
+
+    /// Takes every number away, newest first, and keeps the room.
+    pub(crate) fn clear(&mut self)
+        ensures { self.new ≡ record self.old { numbers = [] } }
+    {
+        while !self.numbers.is_empty() {
+            let _number = self.pop();
+        }
     }
 
     /// Takes the newest number away.

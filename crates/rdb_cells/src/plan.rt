@@ -1,11 +1,11 @@
 //! Plans: the cells that an operation is going to write, with what they will hold.
-ghost use Rattle.std.specs.Prelude.{◌≡◌, ◌<◌, ◌≤◌, ◌-◌, [], ◌∷◌, ◌++◌, length, IfOk, false, slice_get};
-ghost use Rattle.std.specs.Option.{option_copied};
-ghost use Rattle.rdb_cells.specs.Records.{names, content, with_put, max_plan};
+ghost use Rattle.std.specs.Prelude.{◌≡◌, ◌<◌, ◌≤◌, [], ◌∷◌, ◌++◌, length, reverse, IfOk, false};
+ghost use Rattle.rdb_cells.specs.Records.{names, with_put, max_plan, AreChanges};
+ghost use Rattle.rdb_cells.specs.Overlays.{AreCells};
 
-use crate::pairs::{Pair, Pairs};
+use crate::cells::Cells;
+use crate::pairs::{HasPairs, Pair, Pairs};
 use rdb_base::list::NoMemory;
-use rdb_pages::{Cell, CellRef};
 use std::alloc::Global;
 use std::marker::Model;
 
@@ -21,11 +21,14 @@ pub struct Plan {
 }
 
 impl Model for Plan {
-    ghost use Rattle.rdb_cells.specs.Records.{Record};
+    ghost use Rattle.std.specs.Prelude.{◌≤◌};
+    ghost use Rattle.rdb_cells.specs.Records.{Record, max_plan};
 
     ghost Value = { Record };
 
     ghost view = { λ p. p.pairs };
+
+    ghost invariant = { λ p. p.pairs.room ≤ max_plan };
 }
 
 impl Plan {
@@ -39,46 +42,20 @@ impl Plan {
         })
     }
 
-    /// Returns how many cells the plan has.
-    pub fn len(&self) -> usize
-        ensures { result ≡ length self.now.pairs }
+    /// Makes an empty plan without room. It takes no memory.
+    pub fn empty(alloc: Global) -> Plan
+        ensures { result ≡ record { pairs = []; room = 0 } }
     {
-        self.pairs.len()
+        Plan {
+            pairs: Pairs::empty(alloc),
+        }
     }
 
-    /// Returns how many cells there is room for in all.
-    pub fn room(&self) -> usize
-        ensures { result ≡ self.now.room }
+    /// Says how much room a plan has at most. It does nothing.
+    pub fn bounded(&self)
+        ensures { self.now.room ≤ max_plan }
     {
-        self.pairs.room()
-    }
-
-    /// Lends the pairs, in the order in which the cells came.
-    pub fn as_slice(&self) -> &[Pair]
-        ensures { result.now ≡ self.now.pairs }
-    {
-        self.pairs.as_slice()
-    }
-
-    /// Returns whether the plan has the cell. It is one look-up.
-    pub fn has(&self, at: CellRef) -> bool
-        ensures { result ≡ names self.now.pairs at.number }
-    {
-        self.pairs.has(at)
-    }
-
-    /// Returns what the cell will hold, and `None` where the plan doesn't have it. It is one look-up.
-    pub fn get(&self, at: CellRef) -> Option<Cell>
-        ensures { result ≡ content self.now.pairs at.number }
-    {
-        self.pairs.get(at)
-    }
-
-    /// Lends the pair that came last, if there is one.
-    pub fn last(&self) -> Option<&Pair>
-        ensures { option_copied result ≡ slice_get self.now.pairs (length self.now.pairs - 1) }
-    {
-        self.pairs.last()
+        let _ = &self.pairs;
     }
 
     /// Says what the cell will hold: in its pair where the plan has one, and in a new last pair otherwise. The cost is that
@@ -87,11 +64,23 @@ impl Plan {
         requires { names self.old.pairs pair.at.number ≡ false → length self.old.pairs < self.old.room }
         ensures { self.new ≡ record self.old { pairs = with_put self.old.pairs pair } }
     {
-        if self.pairs.has(pair.at) {
-            self.pairs.replace(pair.at, pair.cell);
-        } else {
-            self.pairs.push(pair);
-        }
+        self.pairs.put(pair);
+    }
+
+    /// Takes every pair away, and keeps the room. The cost grows with the number of the pairs.
+    pub fn clear(&mut self)
+        ensures { self.new ≡ record self.old { pairs = [] } }
+    {
+        self.pairs.clear();
+    }
+
+    /// Leaves the pairs whose content their cell doesn't hold, the one that came last first.
+    pub(crate) fn reverse_changes<C: Cells>(&mut self, cells: &C)
+        requires { AreCells (C.image cells.now) self.old.pairs }
+        ensures changes { AreChanges (C.image cells.now) (reverse self.old.pairs) self.new.pairs }
+        ensures room { self.new.room ≡ self.old.room }
+    {
+        self.pairs.reverse_changes(cells);
     }
 
     /// Takes the pair away that came last.
@@ -100,5 +89,13 @@ impl Plan {
         ensures { self.old ≡ record self.new { pairs = self.new.pairs ++ result ∷ [] } }
     {
         self.pairs.pop()
+    }
+}
+
+impl HasPairs for Plan {
+    ghost kept = { λ p. p };
+
+    fn pairs(&self) -> &Pairs {
+        &self.pairs
     }
 }

@@ -1,14 +1,15 @@
 //! What plans, undo records and overlays do over cells in memory.
-ghost use Rattle.std.specs.Prelude.{◌≡◌, ◌-◌, length, slice_get, Some};
+ghost use Rattle.std.specs.Prelude.{◌≡◌, ◌-◌, ℕ, length, slice_get, Some, true};
+ghost use Rattle.rdb_cells.specs.Images.{IsCell};
+ghost use Rattle.rdb_cells.specs.Memory.{memory_image};
+ghost use Rattle.rdb_cells.specs.Records.{names};
 
 use crate::cells::{Cells, Region};
-use crate::kind::{Kind, high, kind_of, wide};
+use crate::doubles::memory::MemoryCells;
 use crate::log::{log_write, take_back};
-use crate::memory::MemoryCells;
 use crate::overlay::Overlay;
-use crate::pairs::Pair;
+use crate::pairs::{HasPairs, Pair};
 use crate::plan::{MAX_PLAN, Plan};
-use crate::reference::{class_head, index_head};
 use crate::settled::Settled;
 use crate::undo::Undo;
 use rdb_pages::{Cell, CellRef};
@@ -22,7 +23,7 @@ fn filled_with(word: u32) -> Cell {
 fn read(rt: &impl Abort, cells: &MemoryCells, number: u32) -> Cell {
     let at = CellRef { number };
     assert!(rt; cells.holds(at), "no cell {number}");
-    cells.read(at)
+    *cells.read(at)
 }
 
 fn write(rt: &impl Abort, cells: &mut MemoryCells, undo: &mut Undo, number: u32, word: u32) {
@@ -47,40 +48,22 @@ fn back(rt: &impl Abort, cells: &mut MemoryCells, undo: &mut Undo) {
     take_back(cells, undo);
 }
 
-fn settled_at(rt: &impl Abort, cells: &MemoryCells, records: &[&Undo], number: u32) -> Cell {
+/// Checks that each pair of the record is of one of the cells.
+fn all_held(rt: &impl Abort, cells: &MemoryCells, undo: &Undo)
+    ensures { (n : ℕ) → names undo.now.pairs n ≡ true → IsCell (memory_image cells.now) n }
+{
+    let pairs = undo.as_slice();
+    for pair in pairs {
+        assert!(rt; cells.holds(pair.at));
+    }
+}
+
+fn settled_at(rt: &impl Abort, cells: &MemoryCells, one: &Undo, other: &Undo, number: u32) -> Cell {
     let at = CellRef { number };
     assert!(rt; cells.holds(at), "no cell {number}");
-    Settled::over(cells, records).settled(at)
-}
-
-#[test]
-fn head_cells_stand_past_the_pages(rt: HostRuntime) {
-    for (class, head) in [(0, 2_000_000), (1, 2_000_016), (63, 2_001_008)] {
-        assert!(rt; class < 64);
-        assert_eq!(rt; class_head(class).number, head);
-    }
-    for (class, index, head) in [(0, 0, 2_000_001), (1, 2, 2_000_019), (63, 7, 2_001_016)] {
-        assert!(rt; class < 64 && index < 15);
-        assert_eq!(rt; index_head(class, index).number, head);
-    }
-}
-
-#[test]
-fn the_first_word_says_the_kind(rt: HostRuntime) {
-    for (word, kind, rest) in [
-        (0, Some(Kind::Free), 0),
-        (258, Some(Kind::Version), 1),
-        (0xffff_ff0b, Some(Kind::IndexHead), 0x00ff_ffff),
-        (12, None, 0),
-    ] {
-        let cell = filled_with(word);
-        assert_eq!(rt; kind_of(&cell), kind, "word {word}");
-        assert_eq!(rt; high(&cell), rest, "word {word}");
-    }
-    let mut cell = Cell::ZERO;
-    cell.words[2] = 5;
-    cell.words[3] = 1;
-    assert_eq!(rt; wide(&cell, 2), 4_294_967_301);
+    all_held(rt, cells, one);
+    all_held(rt, cells, other);
+    *Settled::over(cells, [one, other].as_slice()).settled(at)
 }
 
 #[test]
@@ -91,8 +74,8 @@ fn the_first_write_of_a_cell_is_logged(rt: HostRuntime) -> Result<(), Fail> {
     write(&rt, &mut cells, &mut undo, 5, 51);
     write(&rt, &mut cells, &mut undo, 2_000_001, 60);
     assert_eq!(rt; undo.len(), 2);
-    assert_eq!(rt; undo.get(CellRef { number: 5 }), Some(Cell::ZERO));
-    assert_eq!(rt; undo.get(CellRef { number: 6 }), None);
+    assert_eq!(rt; undo.get(CellRef { number: 5 }).copied(), Some(Cell::ZERO));
+    assert_eq!(rt; undo.get(CellRef { number: 6 }).copied(), None);
     assert!(rt; undo.has(CellRef { number: 2_000_001 }));
     assert_eq!(rt; read(&rt, &cells, 5), filled_with(51));
     back(&rt, &mut cells, &mut undo);
@@ -112,9 +95,12 @@ fn an_emptied_record_keeps_its_room(rt: HostRuntime) -> Result<(), Fail> {
     write(&rt, &mut cells, &mut undo, 2, 20);
     undo.clear();
     assert_eq!(rt; (undo.len(), undo.room()), (0, 2));
-    assert_eq!(rt; undo.get(CellRef { number: 1 }), None);
+    assert_eq!(rt; undo.get(CellRef { number: 1 }).copied(), None);
     write(&rt, &mut cells, &mut undo, 1, 11);
-    assert_eq!(rt; undo.get(CellRef { number: 1 }), Some(filled_with(10)));
+    assert_eq!(rt;
+        undo.get(CellRef { number: 1 }).copied(),
+        Some(filled_with(10))
+    );
     assert_eq!(rt; read(&rt, &cells, 2), filled_with(20));
     Ok(())
 }
@@ -129,7 +115,7 @@ fn records_of_two_classes_go_back_in_either_order(rt: HostRuntime) -> Result<(),
         write(&rt, &mut cells, &mut second, 65, 20);
         write(&rt, &mut cells, &mut first, 64, 11);
         for number in [1, 64, 65] {
-            let settled = settled_at(&rt, &cells, [&first, &second].as_slice(), number);
+            let settled = settled_at(&rt, &cells, &first, &second, number);
             assert_eq!(rt; settled, Cell::ZERO, "cell {number}");
         }
         if first_goes_first {
@@ -161,7 +147,10 @@ fn a_plan_holds_1024_cells(rt: HostRuntime) -> Result<(), Fail> {
         });
     }
     assert_eq!(rt; (plan.len(), plan.room()), (1024, 1024));
-    assert_eq!(rt; plan.get(CellRef { number: 1000 }), Some(filled_with(1000)));
+    assert_eq!(rt;
+        plan.get(CellRef { number: 1000 }).copied(),
+        Some(filled_with(1000))
+    );
     assert!(rt; plan.has(CellRef { number: 1024 }) && !plan.has(CellRef { number: 1025 }));
     assert_eq!(rt; plan.last().map(|pair| pair.at.number), Some(1024));
     assert!(rt; plan.len() > 0);
@@ -179,9 +168,9 @@ fn an_overlay_reads_through_its_plan(rt: HostRuntime) -> Result<(), Fail> {
     let plan = Plan::reserve(rt.alloc(), 4)?;
     let mut overlay = Overlay::over(&cells, plan, 0);
     assert!(rt; cells.holds(used));
-    assert_eq!(rt; overlay.planned(used), filled_with(7));
+    assert_eq!(rt; *overlay.planned(used), filled_with(7));
     overlay.put(used, filled_with(8));
-    assert_eq!(rt; overlay.planned(used), filled_with(8));
+    assert_eq!(rt; *overlay.planned(used), filled_with(8));
     let planned = CellRef { number: 3 };
     assert!(rt; cells.holds(planned));
     overlay.put(planned, filled_with(9));
@@ -190,7 +179,7 @@ fn an_overlay_reads_through_its_plan(rt: HostRuntime) -> Result<(), Fail> {
         assert_eq!(rt; overlay.take().number, number);
     }
     let plan = overlay.plan();
-    assert_eq!(rt; plan.get(used), Some(filled_with(8)));
+    assert_eq!(rt; plan.get(used).copied(), Some(filled_with(8)));
     assert_eq!(rt; read(&rt, &cells, 1), filled_with(7));
     Ok(())
 }
@@ -221,6 +210,50 @@ fn free_cells_are_those_of_the_class(rt: HostRuntime) -> Result<(), Fail> {
     Ok(())
 }
 
+fn put(
+    rt: &impl Abort,
+    cells: &MemoryCells,
+    overlay: &mut Overlay<&MemoryCells>,
+    number: u32,
+    word: u32,
+)
+    requires { overlay.old.cells.now ≡ cells.now }
+    ensures { overlay.new.cells ≡ overlay.old.cells }
+{
+    let at = CellRef { number };
+    assert!(rt; cells.holds(at));
+    assert!(rt; overlay.places_left() > 0);
+    overlay.put(at, filled_with(word));
+}
+
+#[test]
+fn a_plan_leaves_out_what_was_put_back(rt: HostRuntime) -> Result<(), Fail> {
+    let cells = MemoryCells::new(rt.alloc(), &[0], 1)?;
+    let plan = Plan::reserve(rt.alloc(), 5)?;
+    let mut overlay = Overlay::over(&cells, plan, 0);
+    put(&rt, &cells, &mut overlay, 7, 1);
+    put(&rt, &cells, &mut overlay, 3, 2);
+    put(&rt, &cells, &mut overlay, 2_000_000, 3);
+    put(&rt, &cells, &mut overlay, 7, 0);
+    put(&rt, &cells, &mut overlay, 5, 4);
+    put(&rt, &cells, &mut overlay, 3, 6);
+    let mut plan = overlay.plan();
+    assert_eq!(rt; (plan.len(), plan.room()), (3, 5));
+    assert!(rt; !plan.has(CellRef { number: 7 }));
+    for (number, word) in [(3, 6), (2_000_000, 3), (5, 4)] {
+        assert_eq!(rt;
+            plan.get(CellRef { number }).copied(),
+            Some(filled_with(word))
+        );
+        assert!(rt; plan.len() > 0);
+        assert_eq!(rt; plan.pop().at.number, number);
+    }
+    plan.clear();
+    assert_eq!(rt; (plan.len(), plan.room()), (0, 5));
+    assert_eq!(rt; Plan::empty(rt.alloc()).room(), 0);
+    Ok(())
+}
+
 fn next_free<C: Cells>(cells: &C, class: u32, above: u32) -> Option<u32> {
     cells
         .free_after(class, CellRef { number: above })
@@ -234,6 +267,7 @@ fn a_settled_image_frees_what_was_written(rt: HostRuntime) -> Result<(), Fail> {
     write(&rt, &mut cells, &mut undo, 1, 10);
     write(&rt, &mut cells, &mut undo, 2, 20);
     assert_eq!(rt; next_free(&cells, 0, 0), Some(3));
+    all_held(&rt, &cells, &undo);
     let records = [&undo];
     let settled = Settled::over(&cells, records.as_slice());
     assert_eq!(rt; next_free(&settled, 0, 0), Some(1));

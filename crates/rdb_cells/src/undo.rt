@@ -1,11 +1,9 @@
 //! Undo records: what cells held before they were written, so that the writes can be taken back.
-ghost use Rattle.std.specs.Prelude.{◌≡◌, ◌<◌, ◌-◌, [], ◌∷◌, ◌++◌, length, IfOk, false, slice_get};
-ghost use Rattle.std.specs.Option.{option_copied};
-ghost use Rattle.rdb_cells.specs.Records.{names, content};
+ghost use Rattle.std.specs.Prelude.{◌≡◌, ◌<◌, [], ◌∷◌, ◌++◌, length, IfOk, false};
+ghost use Rattle.rdb_cells.specs.Records.{names};
 
-use crate::pairs::{Pair, Pairs};
+use crate::pairs::{HasPairs, Pair, Pairs};
 use rdb_base::list::NoMemory;
-use rdb_pages::{Cell, CellRef};
 use std::alloc::Global;
 use std::marker::Model;
 
@@ -35,46 +33,13 @@ impl Undo {
         })
     }
 
-    /// Returns how many cells are logged.
-    pub fn len(&self) -> usize
-        ensures { result ≡ length self.now.pairs }
+    /// Makes an empty record without room. It takes no memory.
+    pub fn empty(alloc: Global) -> Undo
+        ensures { result ≡ record { pairs = []; room = 0 } }
     {
-        self.pairs.len()
-    }
-
-    /// Returns how many cells there is room for in all.
-    pub fn room(&self) -> usize
-        ensures { result ≡ self.now.room }
-    {
-        self.pairs.room()
-    }
-
-    /// Lends the pairs, oldest first.
-    pub fn as_slice(&self) -> &[Pair]
-        ensures { result.now ≡ self.now.pairs }
-    {
-        self.pairs.as_slice()
-    }
-
-    /// Returns whether the cell is logged, by one look-up.
-    pub fn has(&self, at: CellRef) -> bool
-        ensures { result ≡ names self.now.pairs at.number }
-    {
-        self.pairs.has(at)
-    }
-
-    /// Returns what a logged cell held before, and `None` for one that isn't logged, by one look-up.
-    pub fn get(&self, at: CellRef) -> Option<Cell>
-        ensures { result ≡ content self.now.pairs at.number }
-    {
-        self.pairs.get(at)
-    }
-
-    /// Lends the newest pair, if there is one.
-    pub fn last(&self) -> Option<&Pair>
-        ensures { option_copied result ≡ slice_get self.now.pairs (length self.now.pairs - 1) }
-    {
-        self.pairs.last()
+        Undo {
+            pairs: Pairs::empty(alloc),
+        }
     }
 
     /// Logs a cell that isn't logged yet, with what it holds.
@@ -86,7 +51,7 @@ impl Undo {
         self.pairs.push(pair);
     }
 
-    /// Forgets every pair, and keeps the room. The cost grows with the number of the pairs.
+    /// Forgets every pair, and keeps the room. The cost grows with the number of the pairs, and not with the room.
     pub fn clear(&mut self)
         ensures { self.new ≡ record self.old { pairs = [] } }
     {
@@ -99,5 +64,13 @@ impl Undo {
         ensures { self.old ≡ record self.new { pairs = self.new.pairs ++ result ∷ [] } }
     {
         self.pairs.pop()
+    }
+}
+
+impl HasPairs for Undo {
+    ghost kept = { λ u. u };
+
+    fn pairs(&self) -> &Pairs {
+        &self.pairs
     }
 }

@@ -25,8 +25,8 @@ use Rattle.rdb_schema.specs.declared.schema.Class.{Class}
 use Rattle.rdb_schema.specs.declared.schema.Schema.{Schema}
 use Rattle.rdb_schema.specs.declared.syntax.Part.{Part}
 use Rattle.rdb_schema.specs.declared.syntax.Part.TheVariants as parts
-use Rattle.rdb_ddl.specs.declared.keyword.Keyword.{Keyword}
-use Rattle.rdb_ddl.specs.declared.keyword.Keyword.TheVariants as words
+use Rattle.rdb_schema.specs.declared.keyword.Keyword.{Keyword}
+use Rattle.rdb_schema.specs.declared.keyword.Keyword.TheVariants as words
 use Rattle.rdb_ddl.specs.declared.token.Sign.{Sign}
 use Rattle.rdb_ddl.specs.declared.token.Sign.TheVariants as signs
 use Rattle.rdb_ddl.specs.declared.expect.Owner.TheVariants as owners
@@ -34,12 +34,14 @@ use Rattle.rdb_ddl.specs.declared.expect.Holder.{Holder}
 use Rattle.rdb_ddl.specs.declared.expect.Holder.TheVariants as holders
 use Rattle.rdb_ddl.specs.declared.expect.Expect.{Expect}
 use Rattle.rdb_ddl.specs.declared.expect.Expect.TheVariants.{Declare, Database, DatabaseName, DatabaseEnd, Declaration, DeclarationEnd, StructName, ClassName, Open, StructMember, ClassMember, FieldName, Semicolon, RectOpen, RectType, RectClose, VectorOpen, VectorType, VectorClose, SizeOrEnd, SizeNumber, SizeClose, IndexKindWord, IndexOpen, KeyName, KeyNext, IndexName, EventOpen, EventWord, UpdateEnd, EventClose, EventName}
-use Rattle.rdb_ddl.specs.Keyword.{type_word, member_word, head_word, keyword_of}
-use Rattle.rdb_ddl.specs.Token.{Lexeme, Word, Name, Number, Mark, begins_name, is_name_byte, lexeme_at, after_passing, token_at}
+use Rattle.rdb_schema.specs.Keyword.{type_word, member_word, head_word, keyword_of}
+use Rattle.rdb_ddl.specs.Token.{Lexeme, Word, Name, Number, Mark, lexeme_at, after_passing, token_at}
+use Rattle.rdb_schema.specs.Names.{begins_name, is_name_byte, group_name, field_name, IsWord, IsName}
 use Rattle.rdb_ddl.specs.Grammar.{Parsed, plain_word, kind_word, event_word, after, after_word, after_type, after_plain, after_keyword, after_member_word, after_name, after_mark, after_number, part_of, word_part, keyword_part, name_part, member_part, size_at, size_in, parsed_with, reads_on, reads, may_end}
-use Rattle.rdb_ddl.specs.Canonical.{group_name, field_name, number_text, plain_text, type_text, field_text, size_text, autoid_text, kind_text, unique_text, named_after, key_text, index_text, event_kind_text, event_text, group_text, class_text, canonical}
-use Rattle.rdb_ddl.specs.SchemaParts.{plain_part, type_part, field_parts, autoid_parts, key_part, index_parts, kind_parts, event_parts, group_parts, body_parts, class_parts, parts_of}
-use Rattle.rdb_ddl.specs.Spelled.{IsWord, IsName, IsWidth, IsPlainSpelled, IsTypeSpelled, IsMemberTypeSpelled, IsFieldSpelled, IsMemberSpelled, IsSizeSpelled, IsIndexSpelled, IsKindSpelled, IsEventSpelled, IsGroupSpelled, IsClassSpelled, IsSpelled, HasParts}
+use Rattle.rdb_ddl.specs.Canonical.{number_text, plain_text, type_text, field_text, size_text, autoid_text, kind_text, unique_text, named_after, key_text, index_text, event_kind_text, event_text, group_text, class_text, canonical}
+use Rattle.rdb_schema.specs.SchemaParts.{plain_part, type_part, field_parts, autoid_parts, key_part, index_parts, kind_parts, event_parts, group_parts, body_parts, class_parts, parts_of}
+use Rattle.rdb_schema.specs.SpelledSchemas.{IsWidth, IsSizeSpelled, IsPlainSpelled, IsTypeSpelled, IsMemberTypeSpelled, IsFieldSpelled, IsMemberSpelled, IsIndexSpelled, IsKindSpelled, IsEventSpelled, IsGroupSpelled, IsClassSpelled, IsSpelled}
+use Rattle.rdb_ddl.specs.Read.{HasParts}
 use Rattle.rdb_ddl.proofs.Spellings.{Begins, begins_word, begins_number, begins_sign, byte_of, after_space, after_feed}
 
 -- a text is read to its end, with these parts

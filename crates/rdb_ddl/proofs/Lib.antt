@@ -3,12 +3,6 @@ pub mod Reading
 pub mod OneAnswer
 pub mod Spellings
 pub mod CanonicalTexts
-pub mod Declaring
 pub mod Shapes
-pub mod Items
-pub mod Keeping
-pub mod Members
-pub mod Sorting
-pub mod Counting
 pub mod RoundTrip
 pub mod ShortTexts

@@ -1,13 +1,12 @@
 -- A text that is read isn't refused.
-use Rattle.std.proofs.Common.{◌≡◌, ℕ, List, Option, Some, None, Result, Ok, Err, sym, ◌∙◌, subst}
+use Rattle.std.proofs.Common.{◌≡◌, ℕ, List, Some, None, Ok, Err, sym, ◌∙◌, subst}
 use Rattle.rdb_schema.specs.declared.schema.Schema.{Schema}
-use Rattle.rdb_schema.specs.declared.syntax.Part.{Part}
 use Rattle.rdb_schema.specs.declared.syntax.DdlCause.{DdlCause}
 use Rattle.rdb_schema.specs.declared.syntax.DdlCause.TheVariants.{Unexpected, Unknown, Twice, BadKey, TooMany, NoMemory}
-use Rattle.rdb_schema.specs.Rules.{BreaksNoRule, cause_at}
+use Rattle.rdb_schema.specs.Rules.{BreaksNoRule}
 use Rattle.rdb_ddl.specs.declared.fault.DdlFault.{DdlFault}
-use Rattle.rdb_ddl.specs.Grammar.{Parsed, grammar}
-use Rattle.rdb_ddl.specs.Read.{IsRead, IsFaultIn, IsUnexpected, BreaksRule, IsRefused}
+use Rattle.rdb_ddl.specs.Grammar.{Parsed}
+use Rattle.rdb_ddl.specs.Read.{IsRead, IsFaultIn, BreaksRule, IsRefused}
 
 no_rule : (text : List ℕ) (schema : Schema) (fault : DdlFault) → IsRead text schema → BreaksRule text fault → ⊥
 no_rule text schema fault read breaks =

@@ -7,13 +7,10 @@ use Rattle.std.specs.List.{AllPass, take_while, prefix_len}
 use Rattle.std.proofs.lemmas.Bool.{ltb-false}
 use Rattle.std.proofs.lemmas.List.Elements.{All-cons, All-nil}
 use Rattle.std.proofs.lemmas.List.Sums.{take_while-cons, prefix_len-le-length}
-use Rattle.rdb_schema.specs.declared.schema.Plain.{Plain}
-use Rattle.rdb_schema.specs.declared.schema.Plain.TheVariants as plains
-use Rattle.rdb_schema.specs.declared.schema.EventKind.TheVariants as events
 use Rattle.rdb_schema.specs.declared.syntax.Part.{Part}
 use Rattle.rdb_schema.specs.declared.syntax.Part.TheVariants as parts
-use Rattle.rdb_ddl.specs.declared.keyword.Keyword.{Keyword}
-use Rattle.rdb_ddl.specs.declared.keyword.Keyword.TheVariants as words
+use Rattle.rdb_schema.specs.declared.keyword.Keyword.{Keyword}
+use Rattle.rdb_schema.specs.declared.keyword.Keyword.TheVariants as words
 use Rattle.rdb_ddl.specs.declared.token.Fault.{Fault}
 use Rattle.rdb_ddl.specs.declared.token.Sign.{Sign}
 use Rattle.rdb_ddl.specs.declared.token.Sign.TheVariants as signs
@@ -23,10 +20,12 @@ use Rattle.rdb_ddl.specs.declared.expect.Holder.{Holder}
 use Rattle.rdb_ddl.specs.declared.expect.Holder.TheVariants as holders
 use Rattle.rdb_ddl.specs.declared.expect.Expect.{Expect}
 use Rattle.rdb_ddl.specs.declared.expect.Expect.TheVariants.{Declare, Database, DatabaseName, DatabaseEnd, Declaration, DeclarationEnd, StructName, ClassName, Open, StructMember, ClassMember, FieldName, Semicolon, RectOpen, RectType, RectClose, VectorOpen, VectorType, VectorClose, SizeOrEnd, SizeNumber, SizeClose, IndexKindWord, IndexOpen, KeyName, KeyNext, IndexName, EventOpen, EventWord, UpdateEnd, EventClose, EventName}
-use Rattle.rdb_ddl.specs.Keyword.{keyword_of}
-use Rattle.rdb_ddl.specs.Token.{Word, Name, Number, Mark, End, Unknown, begins_name, is_name_byte, decimal, number_of, after_trivia, unknown_at, token_of, name_at, number_at, mark_at, sign_of, token_at, lexeme_at, lexeme_after}
+use Rattle.rdb_schema.specs.Keyword.{keyword_of}
+use Rattle.rdb_ddl.specs.Token.{Word, Name, Number, Mark, End, Unknown, decimal, number_of, after_trivia, unknown_at, token_of, name_at, number_at, mark_at, sign_of, token_at, lexeme_at, lexeme_after}
+use Rattle.rdb_schema.specs.Names.{begins_name, is_name_byte, IsWord, IsName}
+use Rattle.rdb_schema.specs.PartOrder.{State, Start, Top, GroupMembers, GroupField, ClassMembers, ClassField, KeyFirst, Keys, Updating, Ending, Fits, ends}
+use Rattle.rdb_schema.specs.SpelledSchemas.{IsSizeSpelled}
 use Rattle.rdb_ddl.specs.Grammar.{Parsed, plain_word, kind_word, event_word, after, after_word, after_keyword, after_name, after_mark, after_number, part_of, word_part, keyword_part, name_part, size_at, size_in, with_part, parsed_with, ends_at, may_end, reads_on, reads, grammar}
-use Rattle.rdb_ddl.specs.Spelled.{IsWord, IsName, IsWidth, IsSizeSpelled}
 
 -- ---- what tokens are spelled like
 
@@ -116,84 +115,6 @@ size_spelled text = by_words (lexeme_at text).word (lexeme_at (lexeme_at text).r
   by_words : (first second : Word) → IsSpelledWord second → IsSizeSpelled (size_in first second)
   by_words (Mark signs.OpenBracket) (Number value) small = small
   by_words first second small = tt
-
--- ---- the order of parts
-
-pub data State : Type 0 where
-  Start : State
-  Top : State
-  GroupMembers : (first : Bool) → State
-  GroupField : State
-  ClassMembers : State
-  ClassField : State
-  KeyFirst : State
-  Keys : State
-  Updating : State
-  Ending : State
-
--- which part may come, and what may come after it
-abbrev pub goes : State → Part → Option State
-goes Start (parts.Database name) = Some Top
-goes Top (parts.Struct name) = Some (GroupMembers true)
-goes Top (parts.Class name) = Some ClassMembers
-goes (GroupMembers first) (parts.Plain ty false) = Some GroupField
-goes (GroupMembers false) (parts.Struct name) = Some (GroupMembers true)
-goes (GroupMembers false) (parts.Class name) = Some ClassMembers
-goes GroupField (parts.Member name) = Some (GroupMembers false)
-goes ClassMembers (parts.Plain ty vector) = Some ClassField
-goes ClassMembers (parts.Named name vector) = Some ClassField
-goes ClassMembers (parts.Autoid size) = Some ClassMembers
-goes ClassMembers (parts.Index unique kind) = Some KeyFirst
-goes ClassMembers (parts.Event events.New) = Some Ending
-goes ClassMembers (parts.Event events.Delete) = Some Ending
-goes ClassMembers (parts.Event events.Update) = Some Updating
-goes ClassMembers (parts.Struct name) = Some (GroupMembers true)
-goes ClassMembers (parts.Class name) = Some ClassMembers
-goes ClassField (parts.Member name) = Some ClassMembers
-goes KeyFirst (parts.Key name) = Some Keys
-goes Keys (parts.Key name) = Some Keys
-goes Keys (parts.IndexName name size) = Some ClassMembers
-goes Updating (parts.Update name) = Some Ending
-goes Updating (parts.EventName name) = Some ClassMembers
-goes Ending (parts.EventName name) = Some ClassMembers
-goes _ _ = None
-
-abbrev pub ends : State → Bool
-ends Top = true
-ends (GroupMembers false) = true
-ends ClassMembers = true
-ends _ = false
-
-abbrev pub IsPlainWord : Plain → Type 0
-IsPlainWord (plains.Num bytes signed) = IsWidth bytes
-IsPlainWord plains.Str = Unit {0}
-IsPlainWord plains.Box4 = Unit {0}
-IsPlainWord (plains.Struct place) = ⊥
-
--- the names and sizes of a part are spelled
-abbrev pub IsGood : Part → Type 0
-IsGood (parts.Database name) = IsName name
-IsGood (parts.Struct name) = IsName name
-IsGood (parts.Class name) = IsName name
-IsGood (parts.Plain ty vector) = IsPlainWord ty
-IsGood (parts.Named name vector) = IsName name
-IsGood (parts.Member name) = IsName name
-IsGood (parts.Autoid size) = IsSizeSpelled size
-IsGood (parts.Index unique kind) = Unit {0}
-IsGood (parts.Key name) = IsName name
-IsGood (parts.IndexName name size) = IsName name × IsSizeSpelled size
-IsGood (parts.Event kind) = Unit {0}
-IsGood (parts.Update name) = IsName name
-IsGood (parts.EventName name) = IsName name
-
-abbrev pub fits_on : Option State → (State → Type 0) → Type 0
-fits_on None Then = ⊥
-fits_on (Some state) Then = Then state
-
--- the parts may come there, one after another
-abbrev pub Fits : State → List Part → Type 0
-Fits state [] = ends state ≡ true
-Fits state (part ∷ rest) = IsGood part × fits_on (goes state part) (λ next. Fits next rest)
 
 -- ---- parts that are read
 

@@ -20,11 +20,11 @@ use Rattle.rdb_schema.specs.declared.schema.Event.{Event}
 use Rattle.rdb_schema.specs.declared.schema.Group.{Group}
 use Rattle.rdb_schema.specs.declared.schema.Class.{Class}
 use Rattle.rdb_schema.specs.declared.schema.Schema.{Schema}
-use Rattle.rdb_ddl.specs.Canonical.{group_name, field_name, number_text, plain_text, type_text, field_text, size_text, autoid_text, kind_text, unique_text, named_after, key_text, index_text, event_kind_text, event_text, group_text, class_text, canonical}
-use Rattle.rdb_ddl.specs.Spelled.{IsName, IsWidth, IsPlainSpelled, IsTypeSpelled, IsMemberTypeSpelled, IsFieldSpelled, IsMemberSpelled, IsSizeSpelled, IsIndexSpelled, IsKindSpelled, IsEventSpelled, IsGroupSpelled, IsClassSpelled, IsSpelled}
-use Rattle.rdb_ddl.specs.Limits.{IsSmallGroup, IsShortKey, IsSmallClass, IsWithinLimits}
-use Rattle.rdb_ddl.specs.Read.{IsRead}
-use Rattle.rdb_ddl.proofs.RoundTrip.{spelled, within_limits}
+use Rattle.rdb_ddl.specs.Canonical.{number_text, plain_text, type_text, field_text, size_text, autoid_text, kind_text, unique_text, named_after, key_text, index_text, event_kind_text, event_text, group_text, class_text, canonical}
+use Rattle.rdb_schema.specs.Names.{group_name, field_name, IsName}
+use Rattle.rdb_schema.specs.SpelledSchemas.{IsWidth, IsSizeSpelled, IsPlainSpelled, IsTypeSpelled, IsMemberTypeSpelled, IsFieldSpelled, IsMemberSpelled, IsIndexSpelled, IsKindSpelled, IsEventSpelled, IsGroupSpelled, IsClassSpelled, IsSpelled}
+use Rattle.rdb_schema.specs.Limits.{IsSmallGroup, IsShortKey, IsSmallClass, IsWithinLimits}
+use Rattle.rdb_schema.specs.Schemas.{IsSchema}
 
 -- ---- pieces of so many bytes each
 
@@ -182,5 +182,5 @@ whole_short schema is limits =
     let classes = flat_short (class_text schema.groups) 5000 64 schema.classes (λ k d lt. class_short schema.groups _ (is.classes k d lt) (limits.classes k d lt)) limits.few_classes in
     simp length-append (omega arith)
 
-pub short : (text : List ℕ) (schema : Schema) → IsRead text schema → length (canonical schema) ≤ 16777216
-short text schema read = whole_short schema (spelled text schema read) (within_limits text schema read)
+pub short : (schema : Schema) → IsSchema schema → length (canonical schema) ≤ 16777216
+short schema is = whole_short schema is.spelled is.limits

@@ -10,8 +10,8 @@ use Rattle.std.proofs.lemmas.Fmt.{decimal_by_steps}
 use Rattle.std.proofs.Math.Seq.{take-append_seam, drop-append_seam}
 use Rattle.rdb_ddl.specs.declared.token.Sign.{Sign}
 use Rattle.rdb_ddl.specs.declared.token.Sign.TheVariants as signs
-use Rattle.rdb_ddl.specs.Token.{Word, Name, Number, Mark, begins_name, is_name_byte, decimal, number_of, trivia_len, after_passing, unknown_at, token_of, name_at, number_at, token_at, lexeme_at, lexeme_after}
-use Rattle.rdb_ddl.specs.Spelled.{IsWord}
+use Rattle.rdb_ddl.specs.Token.{Word, Name, Number, Mark, decimal, number_of, trivia_len, after_passing, unknown_at, token_of, name_at, number_at, token_at, lexeme_at, lexeme_after}
+use Rattle.rdb_schema.specs.Names.{begins_name, is_name_byte, IsWord}
 use Rattle.rdb_ddl.proofs.Trivia.{after_trivia-none}
 
 -- a text begins with a token, after which the rest stands

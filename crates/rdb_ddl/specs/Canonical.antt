@@ -1,5 +1,5 @@
 -- The canonical text of a schema.
-use Rattle.std.specs.Prelude.{ℕ, ◌++◌, Bool, true, false, codes, List, [], ◌∷◌, slice_get, Option, Some, None}
+use Rattle.std.specs.Prelude.{ℕ, ◌++◌, Bool, true, false, codes, List, [], ◌∷◌, Option, Some, None}
 use Rattle.std.specs.List.{flat_map}
 use Rattle.std.specs.Fmt.{decimal}
 use Rattle.rdb_schema.specs.declared.schema.Plain.{Plain}
@@ -16,21 +16,7 @@ use Rattle.rdb_schema.specs.declared.schema.Event.{Event}
 use Rattle.rdb_schema.specs.declared.schema.Group.{Group}
 use Rattle.rdb_schema.specs.declared.schema.Class.{Class}
 use Rattle.rdb_schema.specs.declared.schema.Schema.{Schema}
-
--- the name of the struct at a place, and of the field, and nothing where there is none
-abbrev pub name_of_group : Option Group → List ℕ
-name_of_group None = []
-name_of_group (Some group) = group.name
-
-abbrev pub name_of_field : Option Field → List ℕ
-name_of_field None = []
-name_of_field (Some field) = field.name
-
-unfoldable pub group_name : List Group → ℕ → List ℕ
-group_name groups place = name_of_group (slice_get groups place)
-
-unfoldable pub field_name : List Field → ℕ → List ℕ
-field_name fields place = name_of_field (slice_get fields place)
+use Rattle.rdb_schema.specs.Names.{group_name, field_name}
 
 -- a whole number's type, as `uint4`
 unfoldable pub number_text : ℕ → Bool → List ℕ

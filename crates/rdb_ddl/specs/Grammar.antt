@@ -9,8 +9,8 @@ use Rattle.rdb_schema.specs.declared.schema.EventKind.{EventKind}
 use Rattle.rdb_schema.specs.declared.schema.EventKind.TheVariants as events
 use Rattle.rdb_schema.specs.declared.syntax.Part.{Part}
 use Rattle.rdb_schema.specs.declared.syntax.Part.TheVariants as parts
-use Rattle.rdb_ddl.specs.declared.keyword.Keyword.{Keyword}
-use Rattle.rdb_ddl.specs.declared.keyword.Keyword.TheVariants as words
+use Rattle.rdb_schema.specs.declared.keyword.Keyword.{Keyword}
+use Rattle.rdb_schema.specs.declared.keyword.Keyword.TheVariants as words
 use Rattle.rdb_ddl.specs.declared.token.Sign.{Sign}
 use Rattle.rdb_ddl.specs.declared.token.Sign.TheVariants as signs
 use Rattle.rdb_ddl.specs.declared.expect.Owner.{Owner}
@@ -19,7 +19,7 @@ use Rattle.rdb_ddl.specs.declared.expect.Holder.{Holder}
 use Rattle.rdb_ddl.specs.declared.expect.Holder.TheVariants as holders
 use Rattle.rdb_ddl.specs.declared.expect.Expect.{Expect}
 use Rattle.rdb_ddl.specs.declared.expect.Expect.TheVariants.{Declare, Database, DatabaseName, DatabaseEnd, Declaration, DeclarationEnd, StructName, ClassName, Open, StructMember, ClassMember, FieldName, Semicolon, RectOpen, RectType, RectClose, VectorOpen, VectorType, VectorClose, SizeOrEnd, SizeNumber, SizeClose, IndexKindWord, IndexOpen, KeyName, KeyNext, IndexName, EventOpen, EventWord, UpdateEnd, EventClose, EventName}
-use Rattle.rdb_ddl.specs.Keyword.{keyword_of}
+use Rattle.rdb_schema.specs.Keyword.{keyword_of}
 use Rattle.rdb_ddl.specs.Token.{Lexeme, Word, Name, Number, Mark, End, Unknown, lexeme_at}
 
 -- the plain type that a word is, but for boxes

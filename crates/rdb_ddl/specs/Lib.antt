@@ -1,11 +1,6 @@
 pub mod Place
 pub mod Token
-pub mod Keyword
 pub mod Grammar
 pub mod Read
 pub mod Cause
 pub mod Canonical
-pub mod SchemaParts
-pub mod Spelled
-pub mod Resolved
-pub mod Limits

@@ -36,6 +36,12 @@ abbrev pub ArePlaced : Result Kept Refused → ℕ → Type 0
 ArePlaced (Ok kept) total = IsPlaced (parsed_of kept) total
 ArePlaced (Err refused) total = refused.left ≤ total
 
+-- the text is one of the grammar, and these are its parts
+pub record HasParts (text : List ℕ) (syntax : List Part) : Type 0 where
+  pub parsed : Parsed
+  pub parts : grammar text ≡ Ok parsed
+  pub same : parsed.syntax ≡ syntax
+
 -- the schema is what the parts of the text declare, none of which breaks a rule
 pub record IsRead (text : List ℕ) (schema : Schema) : Type 0 where
   pub parsed : Parsed

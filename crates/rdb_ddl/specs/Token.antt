@@ -1,9 +1,10 @@
 -- The tokens of a text of bytes, and what stands between them.
-use Rattle.std.specs.Prelude.{◌≡◌, ◌<◌, ℕ, Bool, zero, suc, ◌+◌, ◌*◌, ◌-◌, ◌≤◌, ◌==◌, ◌||◌, ◌&&◌, not, List, [], ◌∷◌, length, take, drop, take_while, fold, Option, Some, None, Result, Ok, Err, nat_lt, slice_index, if◌then◌else◌}
+use Rattle.std.specs.Prelude.{◌≡◌, ◌<◌, ℕ, zero, suc, ◌+◌, ◌*◌, ◌-◌, ◌≤◌, ◌==◌, ◌||◌, ◌&&◌, not, List, [], ◌∷◌, length, take, drop, take_while, fold, Option, Some, None, Result, Ok, Err, nat_lt, slice_index, if◌then◌else◌}
 use Rattle.std.specs.Option.{option_map}
-use Rattle.std.specs.Char.{is_ascii_digit, is_ascii_alphabetic}
+use Rattle.std.specs.Char.{is_ascii_digit}
 use Rattle.std.specs.Str.{IsAscii}
 use Rattle.std.specs.Str.Lossy.{utf8_valid_len}
+use Rattle.rdb_schema.specs.Names.{begins_name, is_name_byte}
 use Rattle.rdb_ddl.specs.declared.token.Sign.{Sign}
 use Rattle.rdb_ddl.specs.declared.token.Sign.TheVariants as signs
 use Rattle.rdb_ddl.specs.declared.token.Fault.{Fault}
@@ -31,13 +32,6 @@ pub record Lexeme : Type 0 where
   pub word : Word
   pub left : ℕ
   pub rest : List ℕ
-
--- letters and the underscore begin a name, and digits go on with it
-abbrev pub begins_name : ℕ → Bool
-begins_name byte = is_ascii_alphabetic byte || byte == 95
-
-abbrev pub is_name_byte : ℕ → Bool
-is_name_byte byte = begins_name byte || is_ascii_digit byte
 
 -- the number that decimal digits write
 abbrev pub decimal : List ℕ → ℕ

@@ -4,8 +4,8 @@
 ghost use Rattle.std.specs.Prelude.{◌≡◌};
 ghost use Rattle.rdb_ddl.specs.Grammar.{plain_word, kind_word, event_word, after_type, after_plain, after_plain_word, after_kind_word, after_head, after_member_word, after_event_word, after_rect_word, after_keyword, after_name, member_of, after_mark, after_number, may_end, after_word};
 
-use crate::keyword::Keyword;
 use crate::token::Sign;
+use rdb_schema::keyword::Keyword;
 use rdb_schema::schema::{EventKind, IndexKind, Plain};
 
 /// Whose members come.

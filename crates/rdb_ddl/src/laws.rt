@@ -4,11 +4,11 @@ ghost use Rattle.std.specs.Prelude.{◌≡◌, ◌≤◌, ℕ, List, length};
 ghost use Rattle.rdb_schema.specs.Meaning.{declared};
 ghost use Rattle.rdb_schema.specs.declared.schema.Schema.{Schema};
 ghost use Rattle.rdb_ddl.specs.Canonical.{canonical};
-ghost use Rattle.rdb_ddl.specs.SchemaParts.{parts_of};
-ghost use Rattle.rdb_ddl.specs.Spelled.{IsSpelled, HasParts};
-ghost use Rattle.rdb_ddl.specs.Resolved.{IsResolved};
-ghost use Rattle.rdb_ddl.specs.Read.{IsRead};
-ghost use Rattle.rdb_ddl.specs.Limits.{IsWithinLimits};
+ghost use Rattle.rdb_schema.specs.SchemaParts.{parts_of};
+ghost use Rattle.rdb_schema.specs.SpelledSchemas.{IsSpelled};
+ghost use Rattle.rdb_schema.specs.Resolved.{IsResolved};
+ghost use Rattle.rdb_ddl.specs.Read.{IsRead, HasParts};
+ghost use Rattle.rdb_schema.specs.Schemas.{IsSchema};
 
 /// The canonical text of a schema whose names, types and sizes a text can have is one of the grammar: its
 /// parts are the schema's, each once, in canonical order, and it has no others.
@@ -22,11 +22,9 @@ pub fn parts_declare_the_schema()
     ensures { (schema : Schema) → IsResolved schema → declared (parts_of schema) ≡ schema }
 {}
 
-/// What `read` gives can be spelled by a text, and each place in its types, keys and events is the one that
-/// the name there stands for.
-pub fn what_is_read_is_spelled()
-    ensures spelled { (text : List ℕ) (schema : Schema) → IsRead text schema → IsSpelled schema }
-    ensures resolved { (text : List ℕ) (schema : Schema) → IsRead text schema → IsResolved schema }
+/// What `read` gives is a schema: within the limits, spelled, resolved, and with keys that its indexes may have.
+pub fn what_is_read_is_a_schema()
+    ensures { (text : List ℕ) (schema : Schema) → IsRead text schema → IsSchema schema }
 {}
 
 /// The round trip: the canonical text of what `read` gives is read as the same schema. With `one_answer` it is
@@ -35,13 +33,7 @@ pub fn canonical_text_is_read_again()
     ensures { (text : List ℕ) (schema : Schema) → IsRead text schema → IsRead (canonical schema) schema }
 {}
 
-/// What `read` gives has no more structs, classes, fields, indexes, events and fields of a key than the rules
-/// allow.
-pub fn what_is_read_is_within_the_limits()
-    ensures { (text : List ℕ) (schema : Schema) → IsRead text schema → IsWithinLimits schema }
-{}
-
-/// The canonical text of what `read` gives is short enough for `read`: at most 16,777,216 bytes.
+/// The canonical text of a schema is short enough for `read`: at most 16,777,216 bytes.
 pub fn canonical_text_is_short()
-    ensures { (text : List ℕ) (schema : Schema) → IsRead text schema → length (canonical schema) ≤ 16777216 }
+    ensures { (schema : Schema) → IsSchema schema → length (canonical schema) ≤ 16777216 }
 {}

@@ -3,7 +3,6 @@
 
 mod expect;
 pub mod fault;
-mod keyword;
 mod laws;
 mod parse;
 pub mod place;
@@ -15,7 +14,7 @@ mod writer;
 
 pub use laws::{
     canonical_text_has_the_parts, canonical_text_is_read_again, canonical_text_is_short,
-    parts_declare_the_schema, what_is_read_is_spelled, what_is_read_is_within_the_limits,
+    parts_declare_the_schema, what_is_read_is_a_schema,
 };
 pub use reader::{one_answer, read};
 pub use writer::text;

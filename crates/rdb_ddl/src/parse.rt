@@ -3,7 +3,7 @@
 ghost use Rattle.std.specs.Prelude.{◌≡◌, ◌++◌, [], IfOk, OnOk, Some, length};
 ghost use Rattle.std.specs.Str.{IsAscii};
 ghost use Rattle.std.specs.Option.{option_to_list, option_map};
-ghost use Rattle.rdb_ddl.specs.Keyword.{keyword_of};
+ghost use Rattle.rdb_schema.specs.Keyword.{keyword_of};
 ghost use Rattle.rdb_ddl.specs.Grammar.{plain_word, kind_word, event_word, size_at, plain_part, index_part, event_part, member_part, keyword_part, name_part, word_part, part_of, after, ends_at, grammar};
 ghost use Rattle.rdb_ddl.specs.Read.{GivesParts, ArePlaced, parsed_of, appended};
 ghost use Rattle.rdb_ddl.specs.Token.{view, IsShaped};
@@ -11,10 +11,10 @@ ghost use Rattle.rdb_ddl.specs.Token.{view, IsShaped};
 use crate::expect::{
     Expect, after_mark, after_number, after_word, event_word, kind_word, may_end, plain_word,
 };
-use crate::keyword::{Keyword, keyword_of};
 use crate::token::{Lexeme, Sign, Token, lexeme_at};
 use rdb_base::list::{List, NoMemory};
 use rdb_base::text::Text;
+use rdb_schema::keyword::{Keyword, keyword_of};
 use rdb_schema::syntax::{Part, Syntax};
 use std::alloc::Global;
 

@@ -2,6 +2,7 @@
 
 ghost use Rattle.std.specs.Prelude.{◌≡◌, ◌≤◌, ℕ, List, length, slice_get, Some, IfOk, IfErr};
 ghost use Rattle.rdb_schema.specs.Rules.{IsFaultOf, UnlessMemory};
+ghost use Rattle.rdb_schema.specs.Schemas.{IsSchema};
 ghost use Rattle.rdb_schema.specs.declared.schema.Schema.{Schema};
 ghost use Rattle.rdb_ddl.specs.declared.fault.DdlFault.{DdlFault};
 ghost use Rattle.rdb_ddl.specs.Read.{IsRead, IsRefused, IsFaultIn, IsMemoryFirst, IsPlaced, StandsAt, parsed_of};
@@ -35,6 +36,7 @@ fn fault_at(text: &[u8], left: usize, cause: DdlCause) -> DdlFault
 pub fn read(alloc: Global, text: &[u8]) -> Result<Schema, DdlFault>
     requires { length text.now ≤ 16777216 }
     ensures read { IfOk result (IsRead text.now) }
+    ensures schema { IfOk result IsSchema }
     ensures fault { IfErr result (λ fault. IsFaultIn text.now fault fault.cause) }
     ensures memory { IfErr result IsMemoryFirst }
 {
@@ -55,7 +57,8 @@ fn placed(text: &[u8], parsed: &Parsed, fault: SchemaFault) -> DdlFault
     requires places { IsPlaced (parsed_of parsed.now) (length text.now) }
     requires first { IsFaultOf parsed.now.syntax fault }
     ensures cause { result.cause ≡ fault.cause }
-    ensures place { UnlessMemory fault.cause ((left : ℕ) × (slice_get parsed.now.lefts fault.at ≡ Some left) × StandsAt text.now left result) }
+    ensures place { UnlessMemory fault.cause ((left : ℕ) × (slice_get parsed.now.lefts fault.at ≡ Some left)
+        × StandsAt text.now left result) }
     ensures memory { IsMemoryFirst result }
 {
     if fault.cause == DdlCause::NoMemory {

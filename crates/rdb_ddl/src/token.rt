@@ -2,12 +2,13 @@
 //! from the text, takes no memory, and touches nothing but the text that it is lent.
 
 ghost use Rattle.std.specs.Prelude.{◌≡◌, ◌+◌, ◌≤◌, ◌<◌, ◌^◌, ◌↔◌, ◌==◌, not, IsTrue, IfSome, slice_index, [], length, take, drop, take_while, MatchResult, Ok, Err};
-ghost use Rattle.rdb_ddl.specs.Token.{begins_name, is_name_byte, number_of, before_close, comment_len, trivia_len, IsWithin, after_trivia, Unknown, sign_of, token_of, name_at, number_at, mark_at, token_at, lexeme_at, view, view_lexeme, IsShaped, IsIn};
+ghost use Rattle.rdb_ddl.specs.Token.{number_of, before_close, comment_len, trivia_len, IsWithin, after_trivia, Unknown, sign_of, token_of, name_at, number_at, mark_at, token_at, lexeme_at, view, view_lexeme, IsShaped, IsIn};
+ghost use Rattle.rdb_schema.specs.Names.{begins_name, is_name_byte};
 ghost use Rattle.std.specs.Char.{is_ascii_digit};
 ghost use Rattle.std.specs.Str.{IsAscii};
 
-/// The most bytes that a name has.
-pub const NAME_LIMIT: usize = 32;
+use rdb_base::limits::MAX_NAME;
+use rdb_schema::names::{begins_name, is_name_byte};
 
 #[derive(Clone, Copy, Debug, PartialEq, Eq)]
 pub enum Sign {
@@ -50,18 +51,6 @@ pub struct Lexeme<'a> {
 #[derive(Clone, Copy, Debug, PartialEq, Eq)]
 struct Fault {
     left: usize,
-}
-
-fn begins_name(byte: u8) -> bool
-    ensures { result ≡ begins_name byte }
-{
-    byte.is_ascii_alphabetic() || byte == b'_'
-}
-
-fn is_name_byte(byte: u8) -> bool
-    ensures { result ≡ is_name_byte byte }
-{
-    begins_name(byte) || byte.is_ascii_digit()
 }
 
 /// How many bytes of a name stand at the front.
@@ -207,7 +196,7 @@ fn name_at(text: &[u8]) -> Lexeme<'_>
     ensures shape { IsIn result (length text.now) }
 {
     let len = name_len(text);
-    if len > NAME_LIMIT {
+    if len > MAX_NAME {
         return unknown(text.len());
     }
     let (name, _) = text.split_at(len);

@@ -3,7 +3,8 @@
 ghost use Rattle.std.specs.Prelude.{◌≡◌, ◌++◌, codes, IfOk, OnOk, string_bytes};
 ghost use Rattle.std.specs.List.{flat_map};
 ghost use Rattle.std.specs.Fmt.{decimal};
-ghost use Rattle.rdb_ddl.specs.Canonical.{group_name, field_name, number_text, plain_text, type_text, field_text, size_text, autoid_text, kind_text, unique_text, named_after, key_text, index_text, event_kind_text, event_text, group_text, class_text, canonical};
+ghost use Rattle.rdb_ddl.specs.Canonical.{number_text, plain_text, type_text, field_text, size_text, autoid_text, kind_text, unique_text, named_after, key_text, index_text, event_kind_text, event_text, group_text, class_text, canonical};
+ghost use Rattle.rdb_schema.specs.Names.{group_name, field_name};
 
 use rdb_base::list::NoMemory;
 use rdb_base::text::Text;
@@ -26,7 +27,7 @@ fn put_number(out: &mut String, number: u32) -> Result<(), NoMemory>
     Ok(())
 }
 
-#[tactic(auto, unfolding(crate::specs::Canonical::group_name))]
+#[tactic(auto, unfolding(rdb_schema::specs::Names::group_name))]
 fn put_group_name(out: &mut String, groups: &[Group], place: u32) -> Result<(), NoMemory>
     ensures { OnOk result (string_bytes out.new ≡ string_bytes out.old ++ group_name groups.now place) }
 {
@@ -36,7 +37,7 @@ fn put_group_name(out: &mut String, groups: &[Group], place: u32) -> Result<(), 
     }
 }
 
-#[tactic(auto, unfolding(crate::specs::Canonical::field_name))]
+#[tactic(auto, unfolding(rdb_schema::specs::Names::field_name))]
 fn put_field_name(out: &mut String, fields: &[Field], place: u32) -> Result<(), NoMemory>
     ensures { OnOk result (string_bytes out.new ≡ string_bytes out.old ++ field_name fields.now place) }
 {

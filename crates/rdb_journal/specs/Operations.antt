@@ -1,6 +1,6 @@
 -- The text of an operation.
 use Rattle.std.specs.Prelude.{ℕ, List, ◌++◌, codes, decimal, if◌then◌else◌}
-use Rattle.rdb_schema.specs.Printed.{quoted, rect_text, row_text}
+use Rattle.rdb_literals.specs.Printed.{quoted, rect_text, row_text}
 use Rattle.rdb_schema.specs.declared.schema.Schema.{Schema}
 use Rattle.rdb_base.specs.declared.operation.Place.{Place}
 use Rattle.rdb_base.specs.declared.operation.Place.TheVariants as place

@@ -1,7 +1,7 @@
 -- The text of the reply to an operation.
 use Rattle.std.specs.Prelude.{ℕ, List, [], ◌∷◌, ◌++◌, codes, decimal, ⊤}
 use Rattle.std.specs.List.{join_by}
-use Rattle.rdb_schema.specs.Printed.{row_text}
+use Rattle.rdb_literals.specs.Printed.{row_text}
 use Rattle.rdb_schema.specs.declared.schema.Schema.{Schema}
 use Rattle.rdb_base.specs.declared.operation.Op.{Op}
 use Rattle.rdb_base.specs.declared.operation.Reply.{Reply}

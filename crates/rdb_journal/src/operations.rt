@@ -6,7 +6,7 @@ ghost use Rattle.rdb_journal.specs.Operations.{place_text, how_text, operation_t
 use crate::names::{class_name, index_name};
 use rdb_base::list::NoMemory;
 use rdb_base::operation::{How, Op, Place};
-use rdb_schema::printed::{append_quoted, append_rect, append_row};
+use rdb_literals::printed::{append_quoted, append_rect, append_row};
 use rdb_schema::schema::Schema;
 
 fn append_place(mut text: String, place: &Place) -> Result<String, NoMemory>

@@ -7,7 +7,7 @@ ghost use Rattle.rdb_journal.specs.Replies.{ids_text, reply_text, ReplyNamesExis
 use crate::names::index_name;
 use rdb_base::list::NoMemory;
 use rdb_base::operation::{Ids, Op, Reply};
-use rdb_schema::printed::append_row;
+use rdb_literals::printed::append_row;
 use rdb_schema::schema::Schema;
 
 /// The number of the class that an operation is about.

@@ -8,7 +8,7 @@ ghost use Rattle.rdb_journal.specs.Report.{is_commit, is_read, is_abort, is_hand
 use crate::clients::append_clients;
 use crate::endings::{Ends, NotesOfClients};
 use crate::entries::{Lines, append_entry};
-use rdb_base::journal::{Entry, Journal};
+use rdb_base::journal::{Entries, Entry};
 use rdb_base::list::{List, NoMemory};
 use rdb_base::text::Text;
 use rdb_schema::schema::Schema;
@@ -43,7 +43,7 @@ fn is_handled(entry: &Entry) -> bool
 }
 
 /// How many commits there are.
-fn commits(journal: &Journal) -> usize
+fn commits(journal: &Entries) -> usize
     ensures { result ≡ count_by is_commit journal.now }
 {
     let mut count = 0;
@@ -54,7 +54,7 @@ fn commits(journal: &Journal) -> usize
 }
 
 /// How many transactions there are that only read.
-fn reads(journal: &Journal) -> usize
+fn reads(journal: &Entries) -> usize
     ensures { result ≡ count_by is_read journal.now }
 {
     let mut count = 0;
@@ -65,7 +65,7 @@ fn reads(journal: &Journal) -> usize
 }
 
 /// How many roll-backs there are.
-fn aborts(journal: &Journal) -> usize
+fn aborts(journal: &Entries) -> usize
     ensures { result ≡ count_by is_abort journal.now }
 {
     let mut count = 0;
@@ -76,7 +76,7 @@ fn aborts(journal: &Journal) -> usize
 }
 
 /// How many dead clients were handled.
-fn handled(journal: &Journal) -> usize
+fn handled(journal: &Entries) -> usize
     ensures { result ≡ count_by is_handled journal.now }
 {
     let mut count = 0;
@@ -87,7 +87,7 @@ fn handled(journal: &Journal) -> usize
 }
 
 /// The line of the totals: how many entries of each kind there are, but for the closed ones. The cost grows with the journal's length.
-pub fn totals(alloc: Global, journal: &Journal) -> Result<Text, NoMemory>
+pub fn totals(alloc: Global, journal: &Entries) -> Result<Text, NoMemory>
     ensures { IfOk result (λ line. line ≡ totals_line journal.now) }
 {
     let commits = commits(journal);
@@ -101,7 +101,7 @@ pub fn totals(alloc: Global, journal: &Journal) -> Result<Text, NoMemory>
 }
 
 /// The lines of all entries in order.
-fn entries(alloc: Global, schema: &Schema, journal: &Journal) -> Result<Lines, NoMemory>
+fn entries(alloc: Global, schema: &Schema, journal: &Entries) -> Result<Lines, NoMemory>
     requires { All (NamesExist schema.now) journal.now }
     ensures { IfOk result (λ lines. lines ≡ flat_map (entry_lines schema.now) journal.now) }
 {
@@ -117,7 +117,7 @@ fn entries(alloc: Global, schema: &Schema, journal: &Journal) -> Result<Lines, N
 pub fn report(
     alloc: Global,
     schema: &Schema,
-    journal: &Journal,
+    journal: &Entries,
     ends: &Ends,
     notes: &NotesOfClients,
 ) -> Result<Lines, NoMemory>

@@ -10,7 +10,7 @@ use Rattle.rdb_model.specs.Database.{Row, Objects, Database, row_of, with_row, w
 use Rattle.rdb_schema.specs.Indexes.{indexes_of, fields_of}
 use Rattle.rdb_model.specs.Index.{key, has_key, index}
 use Rattle.rdb_model.specs.Answer.{ids_where, clash, sought, meets, words_of, longest_prefix, is_found, written, answer}
-use Rattle.rdb_model.specs.Touch.{class_of}
+use Rattle.rdb_base.specs.Operations.{class_of}
 use Rattle.rdb_model.proofs.Lacking.{told_at}
 
 -- what a write is told, and the objects after it, if they change

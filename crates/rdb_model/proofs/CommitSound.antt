@@ -1,7 +1,7 @@
--- A commit that validation lets pass keeps a journal legal.
-use Rattle.std.proofs.Common.{◌≡◌, ℕ, zero, suc, ◌+◌, ◌≤◌, Bool, true, false, ◌&&◌, ◌||◌, ◌==◌, not, cond, List, [], ◌∷◌, ◌++◌, length, Option, Some, None, IsSome, is_some, All, Contains, nat_eq, refl, sym, ap, subst, arith, append_assoc, append-nil}
+-- A commit that validation lets pass keeps the law.
+use Rattle.std.proofs.Common.{◌≡◌, ℕ, zero, suc, ◌+◌, ◌≤◌, Bool, true, false, ◌&&◌, ◌||◌, ◌==◌, not, cond, List, [], ◌∷◌, ◌++◌, length, Option, Some, None, IsSome, is_some, All, Contains, nat_eq, refl, sym, ap, subst, arith}
 use Rattle.std.specs.List.{cons_option}
-use Rattle.std.specs.Option.{option_map, option_map_or}
+use Rattle.std.specs.Option.{option_map_or}
 use Rattle.std.proofs.lemmas.Bool.Decides.{nat_tests}
 use Rattle.rdb_base.specs.declared.operation.Op.{Op}
 use Rattle.rdb_base.specs.declared.operation.Reply.{Reply}
@@ -9,35 +9,21 @@ use Rattle.rdb_base.specs.declared.journal.Story.{Story}
 use Rattle.rdb_base.specs.declared.journal.Entry.{Entry}
 use Rattle.rdb_base.specs.declared.journal.Entry.TheVariants as entry
 use Rattle.rdb_schema.specs.declared.schema.Schema.{Schema}
-use Rattle.rdb_model.specs.declared.legality.Legality.TheVariants as legality
-use Rattle.rdb_model.specs.declared.legality.Why.{Why}
-use Rattle.rdb_model.specs.declared.legality.Why.TheVariants as why
+use Rattle.rdb_model.specs.declared.legality.Span.{Span}
 use Rattle.rdb_model.specs.Database.{Database, empty, row_of, objects_of}
 use Rattle.rdb_model.specs.Answer.{answer}
 use Rattle.rdb_model.specs.Story.{same_reply, run}
-use Rattle.rdb_model.specs.Journal.{commits, fold, made_by, made_in, made_before, was_made, wrong_reply, is_placed, has_ended, broken, judged, IsLegal}
-use Rattle.rdb_model.specs.Validation.{was_written, AreLeftAlone, MakesAnew, IsValid}
+use Rattle.rdb_model.specs.Journal.{commits, fold, made_by, made_in, made_before, was_made, wrong_reply}
+use Rattle.rdb_model.specs.Parts.{KeepsLaw}
+use Rattle.rdb_model.specs.Validation.{was_written, AreLeftAlone, MakesAnew, IsNew, IsValid}
+use Rattle.rdb_model.proofs.PartLemmas.{law_with}
 use Rattle.rdb_model.proofs.LegalCommits.{commits_run}
 use Rattle.rdb_model.proofs.Validating.{still_runs}
 use Rattle.rdb_model.proofs.SerialReads.{snapshot_below}
 use Rattle.rdb_model.proofs.MadeObjects.{made_left, commit_wrote}
 
--- one entry more that isn't broken keeps a journal legal
-judged_more : (schema : Schema) (earlier xs : List Entry) (e : Entry) → judged schema earlier xs ≡ legality.Legal → broken schema (earlier ++ xs) e ≡ None → judged schema earlier (xs ++ e ∷ []) ≡ legality.Legal
-judged_more schema earlier [] e legal whole =
-    let here : broken schema earlier e ≡ None = subst (λ j. broken schema j e ≡ None) (append-nil earlier) whole in
-    ap (λ b. option_map_or (legality.Illegal (length earlier + 1)) b legality.Legal) here
-judged_more schema earlier (x ∷ xs) e legal whole = go (broken schema earlier x) (judged_more schema (earlier ++ x ∷ []) xs e) legal
-  where
-    next : broken schema ((earlier ++ x ∷ []) ++ xs) e ≡ None
-    next = subst (λ j. broken schema j e ≡ None) (sym (append_assoc earlier (x ∷ []) xs)) whole
-
-    go : (b : Option Why) → (judged schema (earlier ++ x ∷ []) xs ≡ legality.Legal → broken schema ((earlier ++ x ∷ []) ++ xs) e ≡ None → judged schema (earlier ++ x ∷ []) (xs ++ e ∷ []) ≡ legality.Legal) → option_map_or (legality.Illegal (length earlier + 1)) b (judged schema (earlier ++ x ∷ []) xs) ≡ legality.Legal → option_map_or (legality.Illegal (length earlier + 1)) b (judged schema (earlier ++ x ∷ []) (xs ++ e ∷ [])) ≡ legality.Legal
-    go None rest legal = rest legal next
-    go (Some w) rest legal = (cc)
-
 -- a story that runs and makes objects anew has no wrong reply
-right_from : (schema : Schema) (db : Database) (made : List (ℕ × ℕ)) (first : ℕ) (done : List (Op × Reply)) → IsSome (run schema db done) → MakesAnew made done → wrong_reply schema db made first done ≡ None
+pub right_from : (schema : Schema) (db : Database) (made : List (ℕ × ℕ)) (first : ℕ) (done : List (Op × Reply)) → IsSome (run schema db done) → MakesAnew made done → wrong_reply schema db made first done ≡ None
 right_from schema db made first [] runs anew = refl
 right_from schema db made first (d ∷ ds) runs anew =
     subst (λ c. cond (same_reply (answer schema db d.0).0 d.1 && not c) (wrong_reply schema (answer schema db d.0).1 (made ++ made_in (d ∷ [])) (first + 1) ds) (Some first) ≡ None) (sym anew.0)
@@ -46,14 +32,6 @@ right_from schema db made first (d ∷ ds) runs anew =
     go : (b : Bool) → (IsSome (run schema (answer schema db d.0).1 ds) → wrong_reply schema (answer schema db d.0).1 (made ++ made_in (d ∷ [])) (first + 1) ds ≡ None) → IsSome (cond b (run schema (answer schema db d.0).1 ds) None) → cond (b && not false) (wrong_reply schema (answer schema db d.0).1 (made ++ made_in (d ∷ [])) (first + 1) ds) (Some first) ≡ None
     go true rest runs = rest runs
     go false rest runs = (cc)
-
--- an entry that breaks no part isn't broken
-unbroken : (a b c : Bool) (d : Option ℕ) → a ≡ false → b ≡ false → c ≡ false → d ≡ None → cond a (Some why.Number) (cond b (Some why.Twice) (cond c (Some why.Place) (option_map why.Reply d))) ≡ None
-unbroken false false false None p q r s = refl
-unbroken false false false (Some k) p q r s = (cc)
-unbroken false false true d p q r s = (cc)
-unbroken false true c d p q r s = (cc)
-unbroken true b c d p q r s = (cc)
 
 -- what is made anew wasn't made before
 made_by_first : (made more : List (ℕ × ℕ)) (w : ℕ × ℕ) → was_made (made ++ more) w ≡ false → was_made made w ≡ false
@@ -82,8 +60,13 @@ none_there (suc n) zero id e = (cc)
 none_there (suc n) (suc class) id e = none_there n class id e
 
 -- the commit that validation lets pass
-pub commit_is_legal : (schema : Schema) (journal : List Entry) (story : Story) → IsLegal schema journal → IsValid schema journal story → IsLegal schema (journal ++ entry.Commit story (commits journal + 1) ∷ [])
-commit_is_legal schema journal story legal valid = judged_more schema [] journal (entry.Commit story (commits journal + 1)) legal whole
+pub commit_keeps : (within : Span) (schema : Schema) (journal : List Entry) (story : Story) → KeepsLaw within schema journal → IsNew within journal story → IsValid schema journal story → KeepsLaw within schema (journal ++ entry.Commit story (commits journal + 1) ∷ [])
+commit_keeps within schema journal story law is_new valid = law_with within schema journal (entry.Commit story (commits journal + 1)) law (record {
+  number = number;
+  twice = ap (λ b. b || false) is_new;
+  placed = ap not valid.placed;
+  replies = right_from schema (fold schema journal (commits journal)) (made_before journal) 1 story.done runs valid.makes_anew;
+})
   where
     below : story.snapshot ≤ commits journal
     below = snapshot_below journal story (ap not valid.placed)
@@ -92,7 +75,7 @@ commit_is_legal schema journal story legal valid = judged_more schema [] journal
     unwritten own commit stands w e = go (was_written own.done w) refl
       where
         go : (b : Bool) → was_written own.done w ≡ b → b ≡ false
-        go true f = let g : was_made (made_before journal) w ≡ true = commit_wrote schema journal 0 (empty (length schema.classes)) [] own commit (λ v is. absurd (none_there (length schema.classes) v.0 v.1 is)) (commits_run schema [] journal legal) stands w f in (cc)
+        go true f = let g : was_made (made_before journal) w ≡ true = commit_wrote schema journal 0 (empty (length schema.classes)) [] own commit (λ v is. absurd (none_there (length schema.classes) v.0 v.1 is)) (commits_run schema journal law.numbers law.replies) stands w f in (cc)
         go false f = refl
 
     alone : AreLeftAlone schema journal story.snapshot (commits journal) story
@@ -102,11 +85,7 @@ commit_is_legal schema journal story legal valid = judged_more schema [] journal
     }
 
     runs : IsSome (run schema (fold schema journal (commits journal)) story.done)
-    runs = still_runs schema journal story story.snapshot (commits journal) legal below valid.runs alone
+    runs = still_runs schema journal story story.snapshot (commits journal) law.numbers law.replies below valid.runs alone
 
     number : not ((commits journal + 1) == (commits journal + 1)) ≡ false
     number = let same : nat_eq (commits journal + 1) (commits journal + 1) ≡ true = grind (arith, nat_tests) in ap not same
-
-    whole : broken schema journal (entry.Commit story (commits journal + 1)) ≡ None
-    whole = unbroken (not ((commits journal + 1) == (commits journal + 1))) (has_ended journal (story.client, story.number) || false) (not (is_placed journal story)) (wrong_reply schema (fold schema journal (commits journal)) (made_before journal) 1 story.done)
-        number (ap (λ b. b || false) valid.not_ended) (ap not valid.placed) (right_from schema (fold schema journal (commits journal)) (made_before journal) 1 story.done runs valid.makes_anew)

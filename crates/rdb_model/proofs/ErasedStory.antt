@@ -9,7 +9,8 @@ use Rattle.rdb_schema.specs.declared.schema.Schema.{Schema}
 use Rattle.rdb_model.specs.Database.{Row, Database, row_of, without, objects_of}
 use Rattle.rdb_model.specs.Answer.{answer}
 use Rattle.rdb_model.specs.Story.{same_reply, run}
-use Rattle.rdb_model.specs.Touch.{class_of, rests}
+use Rattle.rdb_base.specs.Operations.{class_of}
+use Rattle.rdb_model.specs.Touch.{rests}
 use Rattle.rdb_model.proofs.Rising.{row_of_without, row_of_without_same}
 use Rattle.rdb_model.proofs.ReplyLemmas.{same_reply_is}
 use Rattle.rdb_model.proofs.Erasing.{erased, AllRising, objects_other, objects_erased, rising_erased, rising_answer, erased_comm, makes, IsSteady, steady}

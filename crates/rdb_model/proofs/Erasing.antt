@@ -13,7 +13,8 @@ use Rattle.rdb_model.specs.Database.{Row, Objects, Database, row_of, with_row, w
 use Rattle.rdb_schema.specs.Indexes.{indexes_of}
 use Rattle.rdb_model.specs.Answer.{clash, answer}
 use Rattle.rdb_model.specs.Journal.{made_by}
-use Rattle.rdb_model.specs.Touch.{class_of, rests, rests_on}
+use Rattle.rdb_base.specs.Operations.{class_of}
+use Rattle.rdb_model.specs.Touch.{rests, rests_on}
 use Rattle.rdb_model.proofs.Rising.{IsRising, without_without, rising_with_row, rising_without}
 use Rattle.rdb_model.proofs.ClassAnswers.{local_write, local_put, local_del, local, changed, globally, answer_local}
 use Rattle.rdb_model.proofs.Spared.{MakesOther, IsTold, IsSpared, spared}

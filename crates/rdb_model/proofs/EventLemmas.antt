@@ -18,7 +18,8 @@ use Rattle.rdb_schema.specs.declared.schema.Schema.{Schema}
 use Rattle.rdb_model.specs.Database.{Row, Database, empty, row_of, without, objects_of}
 use Rattle.rdb_model.specs.Index.{key}
 use Rattle.rdb_model.specs.Story.{run, after}
-use Rattle.rdb_model.specs.Journal.{commits, committed, fold, made_before, IsLegal}
+use Rattle.rdb_model.specs.Journal.{commits, committed, fold, made_before}
+use Rattle.rdb_model.specs.Parts.{NumbersInOrder, RepliesHold}
 use Rattle.rdb_model.specs.Touch.{written_by}
 use Rattle.rdb_model.specs.Validation.{was_written}
 use Rattle.rdb_model.specs.Events.{happened}
@@ -27,11 +28,10 @@ use Rattle.rdb_model.proofs.Lacking.{first_fails, second_fails}
 use Rattle.rdb_model.proofs.Erasing.{erased, objects_other, objects_erased}
 use Rattle.rdb_model.proofs.ErasedStory.{row_in, erased_all}
 use Rattle.rdb_model.proofs.WrittenObjects.{wrote_these}
-use Rattle.rdb_model.proofs.LegalCommits.{IsWhole, right_runs, commits_are}
+use Rattle.rdb_model.proofs.LegalCommits.{right_runs, commits_are}
 use Rattle.rdb_model.proofs.Validating.{after_next}
 use Rattle.rdb_model.proofs.SerialReads.{fold_front}
 use Rattle.rdb_model.proofs.SerialPlaces.{get_filtered}
-use Rattle.rdb_model.proofs.SerialBefore.{whole_at}
 
 -- the row of another object stays where one is left out
 pub row_in_erased_other : (db : Database) (v w : ℕ × ℕ) → ((v.0 == w.0) && (v.1 == w.1)) ≡ false → row_in (erased db v) w ≡ row_in db w
@@ -70,17 +70,16 @@ nothing_happened kind.Update (Some row) = same_row_is row
 nothing_happened (kind.UpdateField field) None = refl
 nothing_happened (kind.UpdateField field) (Some row) = same_row_is (key (field ∷ []) row)
 
--- a commit of a legal journal runs on the database before it, which it makes into the one after it
-record RunsAt (schema : Schema) (journal : List Entry) (own : Story) (commit : ℕ) : Type 0 where
-  runs : run schema (fold schema journal (commit - 1)) own.done ≡ Some (after schema (fold schema journal (commit - 1)) own.done)
-  next : fold schema journal commit ≡ after schema (fold schema journal (commit - 1)) own.done
+-- a commit runs on the database before it, which it makes into the one after it
+pub record RunsAt (schema : Schema) (journal : List Entry) (own : Story) (commit : ℕ) : Type 0 where
+  pub runs : run schema (fold schema journal (commit - 1)) own.done ≡ Some (after schema (fold schema journal (commit - 1)) own.done)
+  pub next : fold schema journal commit ≡ after schema (fold schema journal (commit - 1)) own.done
 
-commit_runs : (schema : Schema) (journal : List Entry) (own : Story) (commit i : ℕ) → IsLegal schema journal → slice_get journal i ≡ Some (entry.Commit own commit) → RunsAt schema journal own commit
-commit_runs schema journal own commit i legal is =
-    let w : IsWhole schema (take i journal) (entry.Commit own commit) = whole_at schema [] journal i (entry.Commit own commit) legal is in
-    let number : commit ≡ suc (commits (take i journal)) = numbered (commit == (commits (take i journal) + 1)) refl w.number in
+pub commit_runs : (schema : Schema) (journal : List Entry) (own : Story) (commit i : ℕ) → NumbersInOrder journal → RepliesHold schema journal → slice_get journal i ≡ Some (entry.Commit own commit) → RunsAt schema journal own commit
+commit_runs schema journal own commit i numbers replies is =
+    let number : commit ≡ suc (commits (take i journal)) = numbered (commit == (commits (take i journal) + 1)) refl (numbers i (entry.Commit own commit) is) in
     let place : commit - 1 ≡ commits (take i journal) = omega arith in
-    let right : run schema (fold schema (take i journal) (commits (take i journal))) own.done ≡ Some (after schema (fold schema (take i journal) (commits (take i journal))) own.done) = right_runs schema (fold schema (take i journal) (commits (take i journal))) (made_before (take i journal)) 1 own.done w.replies in
+    let right : run schema (fold schema (take i journal) (commits (take i journal))) own.done ≡ Some (after schema (fold schema (take i journal) (commits (take i journal))) own.done) = right_runs schema (fold schema (take i journal) (commits (take i journal))) (made_before (take i journal)) 1 own.done (replies i (entry.Commit own commit) is) in
     let alike : fold schema (take i journal) (commits (take i journal)) ≡ fold schema journal (commits (take i journal)) = fold_front schema (take i journal) (drop i journal) (commits (take i journal)) (omega arith) ∙ ap (λ j. fold schema j (commits (take i journal))) (take-append-drop i journal) in
     let folded : slice_get (filter_map committed journal) (commits (take i journal)) ≡ Some own.done = ap (slice_get (filter_map committed journal)) (commits_are (take i journal)) ∙ get_filtered committed journal i (entry.Commit own commit) own.done is refl in
     let here : fold schema journal (commit - 1) ≡ fold schema journal (commits (take i journal)) = ap (fold schema journal) place in
@@ -94,14 +93,14 @@ commit_runs schema journal own commit i legal is =
     numbered false e f = (cc)
 
 -- an event happens to an object that the commit wrote
-pub events_written : (schema : Schema) (journal : List Entry) (own : Story) (commit : ℕ) (k : EventKind) (class id : ℕ) → IsLegal schema journal → Contains journal (entry.Commit own commit) → happened k (row_of (objects_of (fold schema journal (commit - 1)) class) id) (row_of (objects_of (fold schema journal commit) class) id) ≡ true → was_written own.done (class, id) ≡ true
-events_written schema journal own commit k class id legal stands event = go (was_written own.done (class, id)) refl
+pub events_written : (schema : Schema) (journal : List Entry) (own : Story) (commit : ℕ) (k : EventKind) (class id : ℕ) → NumbersInOrder journal → RepliesHold schema journal → Contains journal (entry.Commit own commit) → happened k (row_of (objects_of (fold schema journal (commit - 1)) class) id) (row_of (objects_of (fold schema journal commit) class) id) ≡ true → was_written own.done (class, id) ≡ true
+events_written schema journal own commit k class id numbers replies stands event = go (was_written own.done (class, id)) refl
   where
     place : slice_get journal stands.0 ≡ Some (entry.Commit own commit)
     place = slice_get-get_or journal stands.0 (entry.Commit own commit) stands.1 ∙ ap Some stands.2
 
     at : RunsAt schema journal own commit
-    at = commit_runs schema journal own commit stands.0 legal place
+    at = commit_runs schema journal own commit stands.0 numbers replies place
 
     go : (b : Bool) → was_written own.done (class, id) ≡ b → b ≡ true
     go true e = refl

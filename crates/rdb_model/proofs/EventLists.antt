@@ -1,5 +1,5 @@
 -- The event list of a class's event: what is in it, and in which order.
-use Rattle.std.proofs.Common.{◌≡◌, ◌↔◌, ℕ, zero, suc, ◌+◌, ◌-◌, ◌<◌, ◌≤◌, Bool, true, false, ◌||◌, ◌&&◌, cond, ◌⊎◌, inl, inr, List, [], ◌∷◌, ◌++◌, map, filter, slice_get, Option, Some, None, Contains, nat_eq, nat_lt, refl, sym, ap, subst, ◌∙◌, arith}
+use Rattle.std.proofs.Common.{◌≡◌, ◌↔◌, ℕ, zero, suc, ◌-◌, ◌<◌, ◌≤◌, Bool, true, false, cond, ◌⊎◌, inl, inr, List, [], ◌∷◌, ◌++◌, map, filter, slice_get, Option, Some, None, Contains, nat_eq, nat_lt, refl, sym, ap, subst, arith}
 use Rattle.std.specs.List.{AllByRecursion}
 use Rattle.std.specs.Option.{option_map_or}
 use Rattle.std.proofs.lemmas.Bool.{cases_lt}
@@ -8,7 +8,7 @@ use Rattle.std.proofs.lemmas.List.Elements.{Contains-append_left, Contains-appen
 use Rattle.rdb_base.specs.declared.journal.Entry.{Entry}
 use Rattle.rdb_schema.specs.declared.schema.EventKind.{EventKind}
 use Rattle.rdb_schema.specs.declared.schema.Schema.{Schema}
-use Rattle.rdb_model.specs.Database.{Row, Objects, row_of, objects_of}
+use Rattle.rdb_model.specs.Database.{Objects, row_of, objects_of}
 use Rattle.rdb_model.specs.Journal.{commits, fold}
 use Rattle.rdb_model.specs.Events.{happened, with_rows, ids_of_both, event_ids, event_kind, events_up_to, event_list, is_behind, HappenedIn}
 use Rattle.rdb_model.proofs.Rising.{IsRising, rising_with_row}

@@ -1,5 +1,5 @@
 -- The first fault of a journal is the first wrong reply before the first misplaced entry, else that entry; and the first fault is the least.
-use Rattle.std.proofs.Common.{◌≡◌, ℕ, ◌+◌, ◌-◌, ◌<◌, ◌≤◌, ◌⊎◌, Bool, true, false, cond, nat_le, List, [], ◌∷◌, ◌++◌, length, take, drop, slice_get, Option, Some, None, IfSome, All, refl, sym, ap, ◌∙◌, subst, inl, inr, ap₂, suc, append_assoc, append-nil, length-append, arith, le-leb, leb-true, leb-false}
+use Rattle.std.proofs.Common.{◌≡◌, ℕ, ◌+◌, ◌-◌, ◌<◌, ◌≤◌, ◌⊎◌, Bool, true, false, cond, nat_le, List, [], ◌∷◌, ◌++◌, length, take, drop, slice_get, Option, Some, None, IfSome, All, refl, sym, ap, ◌∙◌, subst, inl, inr, ap₂, zero, suc, append_assoc, append-nil, length-append, arith, le-leb, leb-true, leb-false}
 use Rattle.std.specs.Option.{option_map, option_map_or, option_or}
 use Rattle.std.proofs.lemmas.Option.{slice_get_within, get_or_from_slice_get}
 use Rattle.std.proofs.lemmas.Bool.{cases_order}
@@ -9,6 +9,7 @@ use Rattle.rdb_schema.specs.declared.schema.Schema.{Schema}
 use Rattle.rdb_model.specs.declared.legality.Legality.TheVariants as legality
 use Rattle.rdb_model.specs.declared.legality.Why.{Why}
 use Rattle.rdb_model.specs.declared.legality.Why.TheVariants as why
+use Rattle.rdb_model.specs.declared.legality.Span.{Span}
 use Rattle.rdb_model.specs.Journal.{breaks_number, breaks_twice, breaks_place, breaks_reply, broken, judged}
 use Rattle.rdb_model.specs.FirstFault.{misplaced, first_at, fault_at, before, verdict, earlier_of}
 
@@ -18,13 +19,13 @@ kept None e es = e ∷ es
 kept (Some w) e es = []
 
 -- the entries before the first misplaced one
-abbrev pub placed : List Entry → List Entry → List Entry
-placed earlier [] = []
-placed earlier (e ∷ es) = kept (misplaced earlier e) e (placed (earlier ++ e ∷ []) es)
+abbrev pub placed : Span → List Entry → List Entry → List Entry
+placed within earlier [] = []
+placed within earlier (e ∷ es) = kept (misplaced within earlier e) e (placed within (earlier ++ e ∷ []) es)
 
 -- what is broken is what is misplaced, else the reply
-pub broken_parts : (schema : Schema) (earlier : List Entry) (e : Entry) → broken schema earlier e ≡ option_or (misplaced earlier e) (option_map why.Reply (breaks_reply schema earlier e))
-broken_parts schema earlier e = by_number (breaks_number earlier e) (breaks_twice earlier e) (breaks_place earlier e) (option_map why.Reply (breaks_reply schema earlier e))
+pub broken_parts : (within : Span) (schema : Schema) (earlier : List Entry) (e : Entry) → broken within schema earlier e ≡ option_or (misplaced within earlier e) (option_map why.Reply (breaks_reply schema earlier e))
+broken_parts within schema earlier e = by_number (breaks_number earlier e) (breaks_twice within earlier e) (breaks_place earlier e) (option_map why.Reply (breaks_reply schema earlier e))
   where
     by_number : (n t p : Bool) (r : Option Why) → cond n (Some why.Number) (cond t (Some why.Twice) (cond p (Some why.Place) r)) ≡ option_or (cond n (Some why.Number) (cond t (Some why.Twice) (cond p (Some why.Place) None))) r
     by_number true t p r = refl
@@ -33,17 +34,17 @@ broken_parts schema earlier e = by_number (breaks_number earlier e) (breaks_twic
     by_number false false false r = refl
 
 -- a journal is judged by the first wrong reply before the first misplaced entry, else by that entry
-pub judged_by_parts : (schema : Schema) (earlier es : List Entry) → judged schema earlier es ≡ verdict (first_at (breaks_reply schema) earlier (placed earlier es)) (first_at misplaced earlier es)
-judged_by_parts schema earlier [] = refl
-judged_by_parts schema earlier (e ∷ es) =
-    ap (λ b. option_map_or (legality.Illegal (length earlier + 1)) b (judged schema (earlier ++ e ∷ []) es)) (broken_parts schema earlier e)
-    ∙ by_place (misplaced earlier e) (judged_by_parts schema (earlier ++ e ∷ []) es)
+pub judged_by_parts : (within : Span) (schema : Schema) (earlier es : List Entry) → judged within schema earlier es ≡ verdict (first_at (breaks_reply schema) earlier (placed within earlier es)) (first_at (misplaced within) earlier es)
+judged_by_parts within schema earlier [] = refl
+judged_by_parts within schema earlier (e ∷ es) =
+    ap (λ b. option_map_or (legality.Illegal (length earlier + 1)) b (judged within schema (earlier ++ e ∷ []) es)) (broken_parts within schema earlier e)
+    ∙ by_place (misplaced within earlier e) (judged_by_parts within schema (earlier ++ e ∷ []) es)
   where
-    by_reply : (r : Option ℕ) → judged schema (earlier ++ e ∷ []) es ≡ verdict (first_at (breaks_reply schema) (earlier ++ e ∷ []) (placed (earlier ++ e ∷ []) es)) (first_at misplaced (earlier ++ e ∷ []) es) → option_map_or (legality.Illegal (length earlier + 1)) (option_map why.Reply r) (judged schema (earlier ++ e ∷ []) es) ≡ verdict (option_or (option_map (λ f. (length earlier, f)) r) (first_at (breaks_reply schema) (earlier ++ e ∷ []) (placed (earlier ++ e ∷ []) es))) (first_at misplaced (earlier ++ e ∷ []) es)
+    by_reply : (r : Option ℕ) → judged within schema (earlier ++ e ∷ []) es ≡ verdict (first_at (breaks_reply schema) (earlier ++ e ∷ []) (placed within (earlier ++ e ∷ []) es)) (first_at (misplaced within) (earlier ++ e ∷ []) es) → option_map_or (legality.Illegal (length earlier + 1)) (option_map why.Reply r) (judged within schema (earlier ++ e ∷ []) es) ≡ verdict (option_or (option_map (λ f. (length earlier, f)) r) (first_at (breaks_reply schema) (earlier ++ e ∷ []) (placed within (earlier ++ e ∷ []) es))) (first_at (misplaced within) (earlier ++ e ∷ []) es)
     by_reply None rest = rest
     by_reply (Some k) rest = refl
 
-    by_place : (m : Option Why) → judged schema (earlier ++ e ∷ []) es ≡ verdict (first_at (breaks_reply schema) (earlier ++ e ∷ []) (placed (earlier ++ e ∷ []) es)) (first_at misplaced (earlier ++ e ∷ []) es) → option_map_or (legality.Illegal (length earlier + 1)) (option_or m (option_map why.Reply (breaks_reply schema earlier e))) (judged schema (earlier ++ e ∷ []) es) ≡ verdict (first_at (breaks_reply schema) earlier (kept m e (placed (earlier ++ e ∷ []) es))) (option_or (option_map (λ f. (length earlier, f)) m) (first_at misplaced (earlier ++ e ∷ []) es))
+    by_place : (m : Option Why) → judged within schema (earlier ++ e ∷ []) es ≡ verdict (first_at (breaks_reply schema) (earlier ++ e ∷ []) (placed within (earlier ++ e ∷ []) es)) (first_at (misplaced within) (earlier ++ e ∷ []) es) → option_map_or (legality.Illegal (length earlier + 1)) (option_or m (option_map why.Reply (breaks_reply schema earlier e))) (judged within schema (earlier ++ e ∷ []) es) ≡ verdict (first_at (breaks_reply schema) earlier (kept m e (placed within (earlier ++ e ∷ []) es))) (option_or (option_map (λ f. (length earlier, f)) m) (first_at (misplaced within) (earlier ++ e ∷ []) es))
     by_place None rest = by_reply (breaks_reply schema earlier e) rest
     by_place (Some w) rest = refl
 
@@ -61,48 +62,48 @@ abbrev pub before_from : ℕ → Option (ℕ × Why) → List Entry → List Ent
 before_from n None es = es
 before_from n (Some found) es = take (found.0 - n) es
 
-pub placed_is : (earlier es : List Entry) → placed earlier es ≡ before_from (length earlier) (first_at misplaced earlier es) es
-placed_is earlier [] = refl
-placed_is earlier (e ∷ es) = by_place (misplaced earlier e) (placed_is (earlier ++ e ∷ []) es)
+pub placed_is : (within : Span) (earlier es : List Entry) → placed within earlier es ≡ before_from (length earlier) (first_at (misplaced within) earlier es) es
+placed_is within earlier [] = refl
+placed_is within earlier (e ∷ es) = by_place (misplaced within earlier e) (placed_is within (earlier ++ e ∷ []) es)
   where
-    step : (m : Option (ℕ × Why)) → first_at misplaced (earlier ++ e ∷ []) es ≡ m → e ∷ before_from (length (earlier ++ e ∷ [])) m es ≡ before_from (length earlier) m (e ∷ es)
+    step : (m : Option (ℕ × Why)) → first_at (misplaced within) (earlier ++ e ∷ []) es ≡ m → e ∷ before_from (length (earlier ++ e ∷ [])) m es ≡ before_from (length earlier) m (e ∷ es)
     step None is = refl
     step (Some found) is =
-        let h = first_at_within misplaced (earlier ++ e ∷ []) es found is in
+        let h = first_at_within (misplaced within) (earlier ++ e ∷ []) es found is in
         let more : length (earlier ++ e ∷ []) ≡ length earlier + 1 = length_push earlier e in
         let less : found.0 - length earlier ≡ suc (found.0 - length (earlier ++ e ∷ [])) = omega arith in
         sym (ap (λ k. take k (e ∷ es)) less)
 
-    by_place : (m : Option Why) → placed (earlier ++ e ∷ []) es ≡ before_from (length (earlier ++ e ∷ [])) (first_at misplaced (earlier ++ e ∷ []) es) es → kept m e (placed (earlier ++ e ∷ []) es) ≡ before_from (length earlier) (option_or (option_map (λ f. (length earlier, f)) m) (first_at misplaced (earlier ++ e ∷ []) es)) (e ∷ es)
-    by_place None rest = ap (λ l. e ∷ l) rest ∙ step (first_at misplaced (earlier ++ e ∷ []) es) refl
+    by_place : (m : Option Why) → placed within (earlier ++ e ∷ []) es ≡ before_from (length (earlier ++ e ∷ [])) (first_at (misplaced within) (earlier ++ e ∷ []) es) es → kept m e (placed within (earlier ++ e ∷ []) es) ≡ before_from (length earlier) (option_or (option_map (λ f. (length earlier, f)) m) (first_at (misplaced within) (earlier ++ e ∷ []) es)) (e ∷ es)
+    by_place None rest = ap (λ l. e ∷ l) rest ∙ step (first_at (misplaced within) (earlier ++ e ∷ []) es) refl
     by_place (Some w) rest = let none : length earlier - length earlier ≡ 0 = omega arith in sym (ap (λ k. take k (e ∷ es)) none)
 
 -- no entry before the first misplaced one is misplaced
-pub placed_well : (earlier es : List Entry) → first_at misplaced earlier (placed earlier es) ≡ None
-placed_well earlier [] = refl
-placed_well earlier (e ∷ es) = by_place (misplaced earlier e) refl (placed_well (earlier ++ e ∷ []) es)
+pub placed_well : (within : Span) (earlier es : List Entry) → first_at (misplaced within) earlier (placed within earlier es) ≡ None
+placed_well within earlier [] = refl
+placed_well within earlier (e ∷ es) = by_place (misplaced within earlier e) refl (placed_well within (earlier ++ e ∷ []) es)
   where
-    by_place : (m : Option Why) → misplaced earlier e ≡ m → first_at misplaced (earlier ++ e ∷ []) (placed (earlier ++ e ∷ []) es) ≡ None → first_at misplaced earlier (kept m e (placed (earlier ++ e ∷ []) es)) ≡ None
-    by_place None is rest = ap (λ m. option_or (option_map (λ f. (length earlier, f)) m) (first_at misplaced (earlier ++ e ∷ []) (placed (earlier ++ e ∷ []) es))) is ∙ rest
+    by_place : (m : Option Why) → misplaced within earlier e ≡ m → first_at (misplaced within) (earlier ++ e ∷ []) (placed within (earlier ++ e ∷ []) es) ≡ None → first_at (misplaced within) earlier (kept m e (placed within (earlier ++ e ∷ []) es)) ≡ None
+    by_place None is rest = ap (λ m. option_or (option_map (λ f. (length earlier, f)) m) (first_at (misplaced within) (earlier ++ e ∷ []) (placed within (earlier ++ e ∷ []) es))) is ∙ rest
     by_place (Some w) is rest = refl
 
 -- the entries before the first misplaced one, in the words of the code
-pub before_is : (journal : List Entry) (found : Option (ℕ × Why)) → found ≡ first_at misplaced [] journal → before found journal ≡ placed [] journal
-before_is journal found is = by_found found ∙ ap (λ f. before_from 0 f journal) is ∙ sym (placed_is [] journal)
+pub before_is : (within : Span) (journal : List Entry) (found : Option (ℕ × Why)) → found ≡ first_at (misplaced within) [] journal → before found journal ≡ placed within [] journal
+before_is within journal found is = by_found found ∙ ap (λ f. before_from 0 f journal) is ∙ sym (placed_is within [] journal)
   where
     by_found : (f : Option (ℕ × Why)) → before f journal ≡ before_from 0 f journal
     by_found None = refl
     by_found (Some f) = let same : f.0 ≡ f.0 - 0 = omega arith in ap (λ k. take k journal) same
 
-pub before_well : (journal : List Entry) (found : Option (ℕ × Why)) → found ≡ first_at misplaced [] journal → first_at misplaced [] (before found journal) ≡ None
-before_well journal found is = ap (first_at misplaced []) (before_is journal found is) ∙ placed_well [] journal
+pub before_well : (within : Span) (journal : List Entry) (found : Option (ℕ × Why)) → found ≡ first_at (misplaced within) [] journal → first_at (misplaced within) [] (before found journal) ≡ None
+before_well within journal found is = ap (first_at (misplaced within) []) (before_is within journal found is) ∙ placed_well within [] journal
 
 -- a journal is judged by what is found first
-pub legal_is : (schema : Schema) (journal : List Entry) (wrong : Option (ℕ × ℕ)) (found : Option (ℕ × Why)) → found ≡ first_at misplaced [] journal → wrong ≡ first_at (breaks_reply schema) [] (before found journal) → verdict wrong found ≡ judged schema [] journal
-legal_is schema journal wrong found is also =
-    ap (λ w. verdict w found) (also ∙ ap (first_at (breaks_reply schema) []) (before_is journal found is))
-    ∙ ap (verdict (first_at (breaks_reply schema) [] (placed [] journal))) is
-    ∙ sym (judged_by_parts schema [] journal)
+pub legal_is : (within : Span) (schema : Schema) (journal : List Entry) (wrong : Option (ℕ × ℕ)) (found : Option (ℕ × Why)) → found ≡ first_at (misplaced within) [] journal → wrong ≡ first_at (breaks_reply schema) [] (before found journal) → verdict wrong found ≡ judged within schema [] journal
+legal_is within schema journal wrong found is also =
+    ap (λ w. verdict w found) (also ∙ ap (first_at (breaks_reply schema) []) (before_is within journal found is))
+    ∙ ap (verdict (first_at (breaks_reply schema) [] (placed within [] journal))) is
+    ∙ sym (judged_by_parts within schema [] journal)
 
 -- an element after others
 pub slice_get_middle : {A : Type 0} (xs ys : List A) (y : A) → slice_get (xs ++ y ∷ ys) (length xs) ≡ Some y
@@ -228,3 +229,16 @@ first_at_found {A} fault journal i e f at some = first_at_step fault journal i e
 pub all_before : (P : Entry → Type 0) (journal : List Entry) (found : Option (ℕ × Why)) → All P journal → All P (before found journal)
 all_before P journal None all = all
 all_before P journal (Some found) all = λ k d h. let n = length-take found.0 journal in subst P (sym (get_or-take found.0 journal k d (omega arith))) (all k d (omega arith))
+
+-- no entry of a journal without a first fault has one
+pub no_fault_at : {A : Type 0} (fault : List Entry → Entry → Option A) (earlier es : List Entry) (k : ℕ) (e : Entry) → first_at fault earlier es ≡ None → slice_get es k ≡ Some e → fault (earlier ++ take k es) e ≡ None
+no_fault_at fault earlier [] k e none at = absurd (cc)
+no_fault_at {A} fault earlier (x ∷ xs) k e none at = by_fault (fault earlier x) refl none (λ n rest got. no_fault_at fault (earlier ++ x ∷ []) xs n e rest got)
+  where
+    by_place : (n : ℕ) → fault earlier x ≡ None → first_at fault (earlier ++ x ∷ []) xs ≡ None → slice_get (x ∷ xs) n ≡ Some e → ((m : ℕ) → first_at fault (earlier ++ x ∷ []) xs ≡ None → slice_get xs m ≡ Some e → fault ((earlier ++ x ∷ []) ++ take m xs) e ≡ None) → fault (earlier ++ take n (x ∷ xs)) e ≡ None
+    by_place zero here rest got later = let same : x ≡ e = cc in ap₂ fault (append-nil earlier) (sym same) ∙ here
+    by_place (suc n) here rest got later = ap (λ l. fault l e) (sym (append_assoc earlier (x ∷ []) (take n xs))) ∙ later n rest got
+
+    by_fault : (f : Option A) → fault earlier x ≡ f → first_at fault earlier (x ∷ xs) ≡ None → ((m : ℕ) → first_at fault (earlier ++ x ∷ []) xs ≡ None → slice_get xs m ≡ Some e → fault ((earlier ++ x ∷ []) ++ take m xs) e ≡ None) → fault (earlier ++ take k (x ∷ xs)) e ≡ None
+    by_fault None is none later = by_place k is (sym (ap (λ o. option_or (option_map (λ (f : A). (length earlier, f)) o) (first_at fault (earlier ++ x ∷ []) xs)) is) ∙ none) at later
+    by_fault (Some f) is none later = let some = ap (λ o. option_or (option_map (λ (f : A). (length earlier, f)) o) (first_at fault (earlier ++ x ∷ []) xs)) is in absurd (cc)

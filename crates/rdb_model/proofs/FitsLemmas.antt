@@ -1,8 +1,6 @@
 -- What an operation that fits names is there.
-use Rattle.std.proofs.Common.{◌≡◌, ℕ, zero, suc, ◌<◌, ◌≤◌, Bool, true, false, ◌&&◌, List, [], ◌∷◌, length, None, slice_get, refl, arith}
+use Rattle.std.proofs.Common.{◌≡◌, ℕ, zero, suc, ◌<◌, Bool, true, false, ◌&&◌, List, [], ◌∷◌, length, slice_get, refl, arith}
 use Rattle.std.specs.Option.{option_map_or}
-use Rattle.rdb_schema.specs.declared.schema.Schema.{Schema}
-use Rattle.rdb_schema.specs.Indexes.{indexes_of}
 
 -- a test that an element passes has an element
 pub in_range : {A : Type 0} (test : A → Bool) (xs : List A) (i : ℕ) → option_map_or test (slice_get xs i) false ≡ true → i < length xs
@@ -18,13 +16,3 @@ first_of false b e = e
 pub second_of : (a b : Bool) → (a && b) ≡ true → b ≡ true
 second_of true b e = e
 second_of false b e = (cc)
-
--- past its end a list has no element
-pub get_past : {A : Type 0} (xs : List A) (i : ℕ) → length xs ≤ i → slice_get xs i ≡ None
-get_past [] i past = refl
-get_past (x ∷ xs) zero past = absurd (omega arith)
-get_past (x ∷ xs) (suc i) past = get_past xs i (omega arith)
-
--- a class that isn't there has no index
-pub few_past : (schema : Schema) (class : ℕ) → length schema.classes ≤ class → length (indexes_of schema class) ≤ 8
-few_past schema class past = rw (get_past schema.classes class past) (omega arith)

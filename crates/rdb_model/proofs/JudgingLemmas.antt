@@ -1,10 +1,11 @@
 -- One walk over the commits, each followed by the reads that see it, finds the first wrong reply.
-use Rattle.std.proofs.Common.{◌≡◌, ℕ, ◌+◌, ◌^◌, ◌<◌, ◌≤◌, ◌⊎◌, Bool, true, false, cond, not, ◌&&◌, ◌||◌, ◌==◌, nat_eq, nat_le, List, [], ◌∷◌, ◌++◌, length, take, drop, slice_get, slice_index_or, Option, Some, None, refl, sym, ap, ap₂, ◌∙◌, subst, inl, inr, zero, suc, append_assoc, append-nil, take-append-drop, arith, filter_map, BTreeSet, take_all, eqb-true, eq-eqb, leb-true}
+use Rattle.std.proofs.Common.{◌≡◌, ℕ, ◌+◌, ◌^◌, ◌<◌, ◌≤◌, ◌⊎◌, Bool, true, false, cond, not, ◌&&◌, ◌||◌, ◌==◌, nat_eq, nat_le, List, [], ◌∷◌, ◌++◌, length, take, drop, slice_get, slice_index_or, Option, Some, None, refl, sym, ap, ap₂, ◌∙◌, subst, inl, inr, zero, suc, append_assoc, append-nil, take-append-drop, arith, filter_map, All, BTreeSet, take_all, eqb-true, eq-eqb, leb-true}
 use Rattle.std.specs.List.{list_any, cons_option}
 use Rattle.rdb_base.specs.declared.identity.Kind.TheVariants as kind
 use Rattle.rdb_model.specs.Fits.{AllFit}
-use Rattle.std.specs.Option.{option_map, option_map_or, option_or}
+use Rattle.std.specs.Option.{option_map_or}
 use Rattle.std.proofs.lemmas.Bool.{cases_eq, and_parts, or_cases}
+use Rattle.std.proofs.lemmas.Option.{slice_get_within, get_or_from_slice_get}
 use Rattle.std.proofs.lemmas.List.{length_push, take-append-le}
 use Rattle.std.proofs.lemmas.List.Elements.{filter_map-append}
 use Rattle.rdb_base.specs.declared.operation.Op.{Op}
@@ -13,13 +14,16 @@ use Rattle.rdb_base.specs.declared.journal.Story.{Story}
 use Rattle.rdb_base.specs.declared.journal.Entry.{Entry}
 use Rattle.rdb_base.specs.declared.journal.Entry.TheVariants as entry
 use Rattle.rdb_schema.specs.declared.schema.Schema.{Schema}
-use Rattle.rdb_model.specs.declared.legality.Why.TheVariants as why
 use Rattle.rdb_model.specs.Database.{Database, empty}
-use Rattle.rdb_model.specs.Story.{after}
-use Rattle.rdb_model.specs.Journal.{is_commit, commits, committed, after_all, fold, breaks_twice, made_in, made_before, wrong_reply, breaks_reply}
-use Rattle.rdb_model.specs.FirstFault.{FitsEntry, misplaced, first_at, fault_at, earlier_of, wrong_read, earliest_read}
+use Rattle.rdb_model.specs.Answer.{answer}
+use Rattle.rdb_model.specs.Story.{same_reply, after}
+use Rattle.rdb_base.specs.Entries.{is_commit}
+use Rattle.rdb_model.specs.Journal.{commits, committed, after_all, fold, made_in, made_before, made_by, was_made, wrong_reply, breaks_reply}
+use Rattle.rdb_model.specs.Parts.{IsWellPlaced}
+use Rattle.rdb_model.specs.FirstFault.{FitsEntry, first_at, fault_at, earlier_of, wrong_read, earliest_read}
 use Rattle.rdb_model.specs.Tallies.{HasMade, reads_after, sees, AreReaders}
 use Rattle.rdb_model.proofs.FirstFaultLemmas.{settled, IsFault, least, settled_earlier, settled_new, fault_earlier, take_push}
+use Rattle.rdb_model.proofs.AnsweringLemmas.{reads_make}
 use Rattle.rdb_model.proofs.TallyLemmas.{commits_append, commits_yes, commits_no, made_first}
 
 -- the commits of a prefix are no more than those of the whole
@@ -102,24 +106,35 @@ commit_fault schema journal i e done at is =
     by_entry (entry.Handled client by moment finished) so = absurd (cc)
     by_entry (entry.Closed client) so = absurd (cc)
 
--- a read that sees n commits is judged on the database after n
-pub read_fault : (schema : Schema) (journal : List Entry) (n i : ℕ) → sees journal n i ≡ true → option_map_or (wrong_read schema (fold schema journal n)) (slice_get journal i) None ≡ fault_at (breaks_reply schema) journal i
-read_fault schema journal n i = by_get (slice_get journal i)
+-- a read makes nothing, so what was made before doesn't matter to it
+read_alone : (schema : Schema) (db : Database) (made other : List (ℕ × ℕ)) (n : ℕ) (done : List (Op × Reply)) → AllFit schema kind.ReadOnly done → wrong_reply schema db made n done ≡ wrong_reply schema db other n done
+read_alone schema db made other n [] fit = refl
+read_alone schema db made other n (d ∷ ds) fit =
+    go (made_by d) (reads_make schema d.0 d.1 (fit 0 d (omega arith))) (λ more others. read_alone schema (answer schema db d.0).1 more others (n + 1) ds (λ k e lt. fit (suc k) e (omega arith)))
   where
-    by_entry : (e : Entry) → reads_after n (commits (take i journal)) e ≡ true → wrong_read schema (fold schema journal n) e ≡ breaks_reply schema (take i journal) e
-    by_entry (entry.Read story) s =
+    go : (o : Option (ℕ × ℕ)) → o ≡ None → ((more others : List (ℕ × ℕ)) → wrong_reply schema (answer schema db d.0).1 more (n + 1) ds ≡ wrong_reply schema (answer schema db d.0).1 others (n + 1) ds) → cond (same_reply (answer schema db d.0).0 d.1 && not (option_map_or (was_made made) o false)) (wrong_reply schema (answer schema db d.0).1 (made ++ cons_option o []) (n + 1) ds) (Some n) ≡ cond (same_reply (answer schema db d.0).0 d.1 && not (option_map_or (was_made other) o false)) (wrong_reply schema (answer schema db d.0).1 (other ++ cons_option o []) (n + 1) ds) (Some n)
+    go None is rest = ap (λ w. cond (same_reply (answer schema db d.0).0 d.1 && true) w (Some n)) (rest (made ++ []) (other ++ []))
+    go (Some m) is rest = absurd (cc)
+
+-- a read that sees n commits is judged on the database after n
+pub read_fault : (schema : Schema) (journal : List Entry) → All (FitsEntry schema) journal → (n i : ℕ) → sees journal n i ≡ true → option_map_or (wrong_read schema (fold schema journal n)) (slice_get journal i) None ≡ fault_at (breaks_reply schema) journal i
+read_fault schema journal fit n i = by_get (slice_get journal i) refl
+  where
+    by_entry : (e : Entry) → FitsEntry schema e → reads_after n (commits (take i journal)) e ≡ true → wrong_read schema (fold schema journal n) e ≡ breaks_reply schema (take i journal) e
+    by_entry (entry.Read story) fits s =
         let h = and_parts (story.snapshot == n) (nat_le n (commits (take i journal))) s in
         let same : story.snapshot ≡ n = eqb-true story.snapshot n h.0 in
         let le : n ≤ commits (take i journal) = leb-true n (commits (take i journal)) h.1 in
         ap (λ db. wrong_reply schema db [] 1 story.done) (sym (fold_take schema journal i n le) ∙ ap (fold schema (take i journal)) (sym same))
-    by_entry (entry.Commit story commit) s = absurd (cc)
-    by_entry (entry.Abort story cause) s = absurd (cc)
-    by_entry (entry.Handled client by at finished) s = absurd (cc)
-    by_entry (entry.Closed client) s = absurd (cc)
+        ∙ read_alone schema (fold schema (take i journal) story.snapshot) [] (made_before (take i journal)) 1 story.done fits.each
+    by_entry (entry.Commit story commit) fits s = absurd (cc)
+    by_entry (entry.Abort story cause) fits s = absurd (cc)
+    by_entry (entry.Handled client by at finished) fits s = absurd (cc)
+    by_entry (entry.Closed client) fits s = absurd (cc)
 
-    by_get : (o : Option Entry) → option_map_or (reads_after n (commits (take i journal))) o false ≡ true → option_map_or (wrong_read schema (fold schema journal n)) o None ≡ option_map_or (breaks_reply schema (take i journal)) o None
-    by_get None s = refl
-    by_get (Some e) s = by_entry e s
+    by_get : (o : Option Entry) → slice_get journal i ≡ o → option_map_or (reads_after n (commits (take i journal))) o false ≡ true → option_map_or (wrong_read schema (fold schema journal n)) o None ≡ option_map_or (breaks_reply schema (take i journal)) o None
+    by_get None at s = refl
+    by_get (Some e) at s = by_entry e (subst (FitsEntry schema) (get_or_from_slice_get journal i e e at) (fit i e (slice_get_within journal i e at))) s
 
 -- the earliest of faults of reads: it is a fault, keeps what was settled, and settles each of the reads
 pub earliest_fault : (schema : Schema) (db : Database) (journal : List Entry) (best : Option (ℕ × ℕ)) (places : List ℕ) → ((p : ℕ) → list_any (nat_eq p) places ≡ true → option_map_or (wrong_read schema db) (slice_get journal p) None ≡ fault_at (breaks_reply schema) journal p) → IsFault (breaks_reply schema) journal best → IsFault (breaks_reply schema) journal (earliest_read schema db journal best places)
@@ -164,8 +179,8 @@ pub record Judged (schema : Schema) (journal : List Entry) (place : ℕ) (db : D
   pub reads_done : (n k : ℕ) → n ≤ seen → sees journal n k ≡ true → settled best k (fault_at (breaks_reply schema) journal k) ≡ true
 
 -- the reads that see no commit
-pub judged_first : (schema : Schema) (journal : List Entry) (db : Database) (made : BTreeSet (ℕ × ℕ)) (readers : List (List ℕ)) (best : Option (ℕ × ℕ)) → db ≡ empty (length schema.classes) → made.keys ≡ [] → AreReaders journal readers → best ≡ earliest_read schema db journal None (slice_index_or readers 0 []) → Judged schema journal 0 db made 0 best
-judged_first schema journal db made readers best is none have found = record {
+pub judged_first : (schema : Schema) (journal : List Entry) (db : Database) (made : BTreeSet (ℕ × ℕ)) (readers : List (List ℕ)) (best : Option (ℕ × ℕ)) → db ≡ empty (length schema.classes) → made.keys ≡ [] → All (FitsEntry schema) journal → AreReaders journal readers → best ≡ earliest_read schema db journal None (slice_index_or readers 0 []) → Judged schema journal 0 db made 0 best
+judged_first schema journal db made readers best is none fit have found = record {
   database = is;
   counted = refl;
   objects = made_first made none;
@@ -175,7 +190,7 @@ judged_first schema journal db made readers best is none have found = record {
 }
   where
     each : (p : ℕ) → list_any (nat_eq p) (slice_index_or readers 0 []) ≡ true → option_map_or (wrong_read schema db) (slice_get journal p) None ≡ fault_at (breaks_reply schema) journal p
-    each p h = ap (λ d. option_map_or (wrong_read schema d) (slice_get journal p) None) is ∙ read_fault schema journal 0 p (sym (have.each 0 p) ∙ h)
+    each p h = ap (λ d. option_map_or (wrong_read schema d) (slice_get journal p) None) is ∙ read_fault schema journal fit 0 p (sym (have.each 0 p) ∙ h)
 
     read : (n k : ℕ) → n ≤ 0 → sees journal n k ≡ true → settled best k (fault_at (breaks_reply schema) journal k) ≡ true
     read (suc n) k h s = absurd (omega arith)
@@ -205,8 +220,8 @@ judged_other schema journal place db made seen best e so at none = record {
         by_order (inl same) = let no : option_map_or is_commit (slice_get journal k) false ≡ false = ap (λ i. option_map_or is_commit (slice_get journal i) false) same ∙ ap (λ o. option_map_or is_commit o false) at ∙ commit_no e none in absurd (cc)
 
 -- a commit, and the reads that see it
-pub judged_commit : (schema : Schema) (journal : List Entry) (place : ℕ) (db next : Database) (made more : BTreeSet (ℕ × ℕ)) (seen : ℕ) (best last : Option (ℕ × ℕ)) (wrong : Option ℕ) (e : Entry) (done : List (Op × Reply)) (readers : List (List ℕ)) → Judged schema journal place db made seen best → AreReaders journal readers → slice_get journal place ≡ Some e → committed e ≡ Some done → ((objects : List (ℕ × ℕ)) → HasMade objects made → wrong ≡ wrong_reply schema db objects 1 done) → next ≡ after schema db done → ((objects : List (ℕ × ℕ)) → HasMade objects made → HasMade (objects ++ made_in done) more) → last ≡ earliest_read schema next journal (earlier_of best place wrong) (slice_index_or readers (seen + 1) []) → Judged schema journal (place + 1) next more (seen + 1) last
-judged_commit schema journal place db next made more seen best last wrong e done readers so have at commits_it is makes puts found = record {
+pub judged_commit : (schema : Schema) (journal : List Entry) (place : ℕ) (db next : Database) (made more : BTreeSet (ℕ × ℕ)) (seen : ℕ) (best last : Option (ℕ × ℕ)) (wrong : Option ℕ) (e : Entry) (done : List (Op × Reply)) (readers : List (List ℕ)) → Judged schema journal place db made seen best → All (FitsEntry schema) journal → AreReaders journal readers → slice_get journal place ≡ Some e → committed e ≡ Some done → ((objects : List (ℕ × ℕ)) → HasMade objects made → wrong ≡ wrong_reply schema db objects 1 done) → next ≡ after schema db done → ((objects : List (ℕ × ℕ)) → HasMade objects made → HasMade (objects ++ made_in done) more) → last ≡ earliest_read schema next journal (earlier_of best place wrong) (slice_index_or readers (seen + 1) []) → Judged schema journal (place + 1) next more (seen + 1) last
+judged_commit schema journal place db next made more seen best last wrong e done readers so fit have at commits_it is makes puts found = record {
   database = new_database;
   counted = ap (λ n. n + 1) so.counted ∙ sym (ap commits longer ∙ commits_yes (take place journal) e (commit_yes e done commits_it));
   objects = subst (λ l. HasMade l more) (sym (ap made_before longer ∙ made_push (take place journal) e ∙ ap (λ o. made_before (take place journal) ++ option_map_or made_in o []) commits_it)) (puts (made_before (take place journal)) so.objects);
@@ -225,7 +240,7 @@ judged_commit schema journal place db next made more seen best last wrong e done
     fault = is (made_before (take place journal)) so.objects ∙ ap (λ d. wrong_reply schema d (made_before (take place journal)) 1 done) (so.database ∙ ap (fold schema journal) so.counted) ∙ sym (commit_fault schema journal place e done at commits_it)
 
     each : (p : ℕ) → list_any (nat_eq p) (slice_index_or readers (seen + 1) []) ≡ true → option_map_or (wrong_read schema next) (slice_get journal p) None ≡ fault_at (breaks_reply schema) journal p
-    each p h = ap (λ d. option_map_or (wrong_read schema d) (slice_get journal p) None) new_database ∙ read_fault schema journal (seen + 1) p (sym (have.each (seen + 1) p) ∙ h)
+    each p h = ap (λ d. option_map_or (wrong_read schema d) (slice_get journal p) None) new_database ∙ read_fault schema journal fit (seen + 1) p (sym (have.each (seen + 1) p) ∙ h)
 
     keeps : (k : ℕ) (f : Option ℕ) → settled (earlier_of best place wrong) k f ≡ true → settled last k f ≡ true
     keeps k f s = ap (λ b. settled b k f) found ∙ earliest_keeps schema next journal (earlier_of best place wrong) (slice_index_or readers (seen + 1) []) k f s
@@ -254,38 +269,21 @@ fits_commit schema (entry.Abort story cause) done fit is = absurd (cc)
 fits_commit schema (entry.Handled client by moment finished) done fit is = absurd (cc)
 fits_commit schema (entry.Closed client) done fit is = absurd (cc)
 
--- no entry of a journal without a first fault has one
-pub no_fault_at : {A : Type 0} (fault : List Entry → Entry → Option A) (earlier es : List Entry) (k : ℕ) (e : Entry) → first_at fault earlier es ≡ None → slice_get es k ≡ Some e → fault (earlier ++ take k es) e ≡ None
-no_fault_at fault earlier [] k e none at = absurd (cc)
-no_fault_at {A} fault earlier (x ∷ xs) k e none at = by_fault (fault earlier x) refl none (λ n rest got. no_fault_at fault (earlier ++ x ∷ []) xs n e rest got)
-  where
-    by_place : (n : ℕ) → fault earlier x ≡ None → first_at fault (earlier ++ x ∷ []) xs ≡ None → slice_get (x ∷ xs) n ≡ Some e → ((m : ℕ) → first_at fault (earlier ++ x ∷ []) xs ≡ None → slice_get xs m ≡ Some e → fault ((earlier ++ x ∷ []) ++ take m xs) e ≡ None) → fault (earlier ++ take n (x ∷ xs)) e ≡ None
-    by_place zero here rest got later = let same : x ≡ e = cc in ap₂ fault (append-nil earlier) (sym same) ∙ here
-    by_place (suc n) here rest got later = ap (λ l. fault l e) (sym (append_assoc earlier (x ∷ []) (take n xs))) ∙ later n rest got
-
-    by_fault : (f : Option A) → fault earlier x ≡ f → first_at fault earlier (x ∷ xs) ≡ None → ((m : ℕ) → first_at fault (earlier ++ x ∷ []) xs ≡ None → slice_get xs m ≡ Some e → fault ((earlier ++ x ∷ []) ++ take m xs) e ≡ None) → fault (earlier ++ take k (x ∷ xs)) e ≡ None
-    by_fault None is none later = by_place k is (sym (ap (λ o. option_or (option_map (λ (f : A). (length earlier, f)) o) (first_at fault (earlier ++ x ∷ []) xs)) is) ∙ none) at later
-    by_fault (Some f) is none later = let some = ap (λ o. option_or (option_map (λ (f : A). (length earlier, f)) o) (first_at fault (earlier ++ x ∷ []) xs)) is in absurd (cc)
-
 -- a read that is well placed sees commits before it
-pub placed_sees : (journal : List Entry) (k : ℕ) (story : Story) → first_at misplaced [] journal ≡ None → slice_get journal k ≡ Some (entry.Read story) → sees journal story.snapshot k ≡ true
-placed_sees journal k story none at = ap (λ o. option_map_or (reads_after story.snapshot (commits (take k journal))) o false) at ∙ ap₂ (λ a b. a && b) (eq-eqb story.snapshot story.snapshot refl) (within (is_placed_parts))
+pub placed_sees : (journal : List Entry) (k : ℕ) (story : Story) → IsWellPlaced journal → slice_get journal k ≡ Some (entry.Read story) → sees journal story.snapshot k ≡ true
+placed_sees journal k story placed at =
+    ap (λ o. option_map_or (reads_after story.snapshot (commits (take k journal))) o false) at
+    ∙ ap₂ (λ a b. a && b) (eq-eqb story.snapshot story.snapshot refl)
+    (seen (nat_le story.begun (length (take k journal))) (nat_le (commits (take story.begun (take k journal))) story.snapshot) (nat_le story.snapshot (commits (take k journal))) (placed k (entry.Read story) at))
   where
-    is_placed_parts : misplaced (take k journal) (entry.Read story) ≡ None
-    is_placed_parts = no_fault_at misplaced [] journal k (entry.Read story) none at
-
-    unplaced : (t a b c : Bool) → cond t (Some why.Twice) (cond (not (a && (b && c))) (Some why.Place) None) ≡ None → c ≡ true
-    unplaced true a b c h = absurd (cc)
-    unplaced false true true true h = refl
-    unplaced false true true false h = absurd (cc)
-    unplaced false true false c h = absurd (cc)
-    unplaced false false b c h = absurd (cc)
-
-    within : misplaced (take k journal) (entry.Read story) ≡ None → nat_le story.snapshot (commits (take k journal)) ≡ true
-    within h = unplaced (breaks_twice (take k journal) (entry.Read story)) (nat_le story.begun (length (take k journal))) (nat_le (commits (take story.begun (take k journal))) story.snapshot) (nat_le story.snapshot (commits (take k journal))) h
+    seen : (a b c : Bool) → not (a && (b && c)) ≡ false → c ≡ true
+    seen true true true h = refl
+    seen true true false h = absurd (cc)
+    seen true false c h = absurd (cc)
+    seen false b c h = absurd (cc)
 
 -- once all is judged, the best is the first
-pub judged_last : (schema : Schema) (journal : List Entry) (place : ℕ) (db : Database) (made : BTreeSet (ℕ × ℕ)) (seen : ℕ) (best : Option (ℕ × ℕ)) → Judged schema journal place db made seen best → length journal ≤ place → first_at misplaced [] journal ≡ None → best ≡ first_at (breaks_reply schema) [] journal
+pub judged_last : (schema : Schema) (journal : List Entry) (place : ℕ) (db : Database) (made : BTreeSet (ℕ × ℕ)) (seen : ℕ) (best : Option (ℕ × ℕ)) → Judged schema journal place db made seen best → length journal ≤ place → IsWellPlaced journal → best ≡ first_at (breaks_reply schema) [] journal
 judged_last schema journal place db made seen best so all none = sym (least (breaks_reply schema) journal [] journal best refl so.right each (λ k h. absurd (omega arith)))
   where
     whole : seen ≡ commits journal
@@ -324,7 +322,7 @@ commit_within journal place seen e done counted at is =
     omega arith
 
 -- a commit and the reads that see it, in the steps of the walk
-pub judged_next : {schema : Schema} {journal : List Entry} {place : ℕ} {db middle next : Database} {made more : BTreeSet (ℕ × ℕ)} {seen : ℕ} {best found last : Option (ℕ × ℕ)} {wrong : Option ℕ} {e : Entry} {done : List (Op × Reply)} {readers : List (List ℕ)} {places : List ℕ} → Judged schema journal place db made seen best → AreReaders journal readers → slice_get journal place ≡ Some e → committed e ≡ Some done → ((objects : List (ℕ × ℕ)) → HasMade objects made → wrong ≡ wrong_reply schema db objects 1 done) → middle ≡ after schema db done → ((objects : List (ℕ × ℕ)) → HasMade objects made → HasMade (objects ++ made_in done) more) → next ≡ middle → found ≡ earlier_of best place wrong → places ≡ slice_index_or readers (seen + 1) [] → last ≡ earliest_read schema middle journal found places → Judged schema journal (place + 1) next more (seen + 1) last
-judged_next {schema} {journal} {place} {db} {middle} {next} {made} {more} {seen} {best} {found} {last} {wrong} {e} {done} {readers} {places} so have at commits_it is makes puts same earlier listed first =
-    judged_commit schema journal place db next made more seen best last wrong e done readers so have at commits_it is (same ∙ makes) puts
+pub judged_next : {schema : Schema} {journal : List Entry} {place : ℕ} {db middle next : Database} {made more : BTreeSet (ℕ × ℕ)} {seen : ℕ} {best found last : Option (ℕ × ℕ)} {wrong : Option ℕ} {e : Entry} {done : List (Op × Reply)} {readers : List (List ℕ)} {places : List ℕ} → Judged schema journal place db made seen best → All (FitsEntry schema) journal → AreReaders journal readers → slice_get journal place ≡ Some e → committed e ≡ Some done → ((objects : List (ℕ × ℕ)) → HasMade objects made → wrong ≡ wrong_reply schema db objects 1 done) → middle ≡ after schema db done → ((objects : List (ℕ × ℕ)) → HasMade objects made → HasMade (objects ++ made_in done) more) → next ≡ middle → found ≡ earlier_of best place wrong → places ≡ slice_index_or readers (seen + 1) [] → last ≡ earliest_read schema middle journal found places → Judged schema journal (place + 1) next more (seen + 1) last
+judged_next {schema} {journal} {place} {db} {middle} {next} {made} {more} {seen} {best} {found} {last} {wrong} {e} {done} {readers} {places} so fit have at commits_it is makes puts same earlier listed first =
+    judged_commit schema journal place db next made more seen best last wrong e done readers so fit have at commits_it is (same ∙ makes) puts
     (first ∙ ap₂ (λ d f. earliest_read schema d journal f places) (sym same) earlier ∙ ap (earliest_read schema next journal (earlier_of best place wrong)) listed)

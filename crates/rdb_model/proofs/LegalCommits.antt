@@ -1,6 +1,6 @@
--- The commits of a legal journal, one after another: each has the next number and runs on what those before it made.
-use Rattle.std.proofs.Common.{◌≡◌, ℕ, zero, suc, ◌+◌, Bool, true, false, ◌&&◌, ◌==◌, not, cond, List, [], ◌∷◌, ◌++◌, length, take, slice_get, filter, filter_map, Option, Some, None, Contains, refl, sym, ap, subst, ◌∙◌, arith, take_all, length-append}
-use Rattle.std.specs.Option.{option_map, option_map_or}
+-- The commits of a journal, one after another: each has the next number and runs on what those before it made.
+use Rattle.std.proofs.Common.{◌≡◌, ℕ, zero, suc, ◌+◌, Bool, true, false, ◌&&◌, ◌==◌, not, cond, List, [], ◌∷◌, ◌++◌, length, take, slice_get, filter, filter_map, Some, None, Contains, refl, sym, ap, subst, ◌∙◌, arith, take_all, length-append, append_assoc}
+use Rattle.std.specs.Option.{option_map_or}
 use Rattle.std.proofs.lemmas.Bool.Decides.{nat_tests}
 use Rattle.std.proofs.lemmas.List.Elements.{filter-append, filter_map-append}
 use Rattle.rdb_base.specs.declared.operation.Op.{Op}
@@ -9,13 +9,13 @@ use Rattle.rdb_base.specs.declared.journal.Story.{Story}
 use Rattle.rdb_base.specs.declared.journal.Entry.{Entry}
 use Rattle.rdb_base.specs.declared.journal.Entry.TheVariants as entry
 use Rattle.rdb_schema.specs.declared.schema.Schema.{Schema}
-use Rattle.rdb_model.specs.declared.legality.Legality.TheVariants as legality
-use Rattle.rdb_model.specs.declared.legality.Why.{Why}
-use Rattle.rdb_model.specs.declared.legality.Why.TheVariants as why
 use Rattle.rdb_model.specs.Database.{Database, empty}
 use Rattle.rdb_model.specs.Answer.{answer}
 use Rattle.rdb_model.specs.Story.{same_reply, run, after}
-use Rattle.rdb_model.specs.Journal.{is_commit, commits, committed, after_all, fold, made_by, made_in, was_made, made_before, wrong_reply, breaks_number, breaks_twice, breaks_place, breaks_reply, broken, judged}
+use Rattle.rdb_base.specs.Entries.{is_commit}
+use Rattle.rdb_model.specs.Journal.{commits, committed, after_all, fold, made_by, made_in, was_made, made_before, wrong_reply, breaks_number, breaks_reply}
+use Rattle.rdb_model.specs.Parts.{NumbersInOrder, RepliesHold}
+use Rattle.rdb_model.proofs.PartLemmas.{holds_here}
 
 -- each commit has the next number, and runs on the database so far
 abbrev pub CommitsRun : Schema → ℕ → Database → List Entry → Type 0
@@ -36,31 +36,6 @@ right_runs schema db made first (d ∷ ds) none =
     go true true rest none = rest none
     go true false rest none = (cc)
     go false c rest none = (cc)
-
--- the parts of an entry that isn't broken
-pub record IsWhole (schema : Schema) (earlier : List Entry) (e : Entry) : Type 0 where
-  pub number : breaks_number earlier e ≡ false
-  pub twice : breaks_twice earlier e ≡ false
-  pub placed : breaks_place earlier e ≡ false
-  pub replies : breaks_reply schema earlier e ≡ None
-
-pub whole_from : (schema : Schema) (earlier : List Entry) (e : Entry) → broken schema earlier e ≡ None → IsWhole schema earlier e
-whole_from schema earlier e none = go (breaks_number earlier e) (breaks_twice earlier e) (breaks_place earlier e) (breaks_reply schema earlier e) refl refl refl refl none
-  where
-    go : (a b c : Bool) (d : Option ℕ) → breaks_number earlier e ≡ a → breaks_twice earlier e ≡ b → breaks_place earlier e ≡ c → breaks_reply schema earlier e ≡ d → cond a (Some why.Number) (cond b (Some why.Twice) (cond c (Some why.Place) (option_map why.Reply d))) ≡ None → IsWhole schema earlier e
-    go true b c d p q r s none = (cc)
-    go false true c d p q r s none = (cc)
-    go false false true d p q r s none = (cc)
-    go false false false (Some k) p q r s none = (cc)
-    go false false false None p q r s none = record { number = p; twice = q; placed = r; replies = s }
-
--- the first of the entries that are judged legal isn't broken, and the others are legal after it
-pub judged_first : (schema : Schema) (earlier : List Entry) (e : Entry) (es : List Entry) → judged schema earlier (e ∷ es) ≡ legality.Legal → IsWhole schema earlier e × (judged schema (earlier ++ e ∷ []) es ≡ legality.Legal)
-judged_first schema earlier e es legal = go (broken schema earlier e) refl legal
-  where
-    go : (b : Option Why) → broken schema earlier e ≡ b → option_map_or (legality.Illegal (length earlier + 1)) b (judged schema (earlier ++ e ∷ []) es) ≡ legality.Legal → IsWhole schema earlier e × (judged schema (earlier ++ e ∷ []) es ≡ legality.Legal)
-    go None f legal = (whole_from schema earlier e f, legal)
-    go (Some w) f legal = (cc)
 
 -- the commits are those whose stories are folded
 pub commits_are : (es : List Entry) → commits es ≡ length (filter_map committed es)
@@ -97,31 +72,36 @@ passed_by schema earlier e es none no_commit rest =
     let alike : made_of schema (earlier ++ e ∷ []) ≡ made_of schema earlier = made_more schema earlier e ∙ ap (after_all schema (made_of schema earlier)) none in
     subst (λ n. CommitsRun schema n (made_of schema earlier) es) same (subst (λ d. CommitsRun schema (commits (earlier ++ e ∷ [])) d es) alike rest)
 
--- the commits of what is judged legal run, one after another
-pub commits_run : (schema : Schema) (earlier es : List Entry) → judged schema earlier es ≡ legality.Legal → CommitsRun schema (commits earlier) (made_of schema earlier) es
-commits_run schema earlier [] legal = tt
-commits_run schema earlier (entry.Commit own commit ∷ es) legal =
-    let both = judged_first schema earlier (entry.Commit own commit) es legal in
-    let rest : CommitsRun schema (commits (earlier ++ entry.Commit own commit ∷ [])) (made_of schema (earlier ++ entry.Commit own commit ∷ [])) es = commits_run schema (earlier ++ entry.Commit own commit ∷ []) es both.1 in
-    let runs : run schema (fold schema earlier (commits earlier)) own.done ≡ Some (after schema (fold schema earlier (commits earlier)) own.done) = right_runs schema (fold schema earlier (commits earlier)) (made_before earlier) 1 own.done both.0.replies in
-    let next : commits (earlier ++ entry.Commit own commit ∷ []) ≡ suc (commits earlier) = let e = commits_more earlier (entry.Commit own commit) in omega (arith, e) in (
-      numbered (commit == (commits earlier + 1)) refl both.0.number,
-      subst (λ d. run schema d own.done ≡ Some (after schema d own.done)) (fold_all schema earlier) runs,
-      subst (λ n. CommitsRun schema n (after schema (made_of schema earlier) own.done) es) next
-          (subst (λ d. CommitsRun schema (commits (earlier ++ entry.Commit own commit ∷ [])) d es) (made_more schema earlier (entry.Commit own commit)) rest),
-    )
-  where
-    numbered : (b : Bool) → (commit == (commits earlier + 1)) ≡ b → not b ≡ false → commit ≡ suc (commits earlier)
-    numbered true e f = grind (arith, nat_tests)
-    numbered false e f = (cc)
-commits_run schema earlier (entry.Read story ∷ es) legal =
-    passed_by schema earlier (entry.Read story) es refl refl (commits_run schema (earlier ++ entry.Read story ∷ []) es (judged_first schema earlier (entry.Read story) es legal).1)
-commits_run schema earlier (entry.Abort story cause ∷ es) legal =
-    passed_by schema earlier (entry.Abort story cause) es refl refl (commits_run schema (earlier ++ entry.Abort story cause ∷ []) es (judged_first schema earlier (entry.Abort story cause) es legal).1)
-commits_run schema earlier (entry.Handled client by at finished ∷ es) legal =
-    passed_by schema earlier (entry.Handled client by at finished) es refl refl (commits_run schema (earlier ++ entry.Handled client by at finished ∷ []) es (judged_first schema earlier (entry.Handled client by at finished) es legal).1)
-commits_run schema earlier (entry.Closed client ∷ es) legal =
-    passed_by schema earlier (entry.Closed client) es refl refl (commits_run schema (earlier ++ entry.Closed client ∷ []) es (judged_first schema earlier (entry.Closed client) es legal).1)
+-- the commits of a journal whose numbers are in order and whose replies hold run, one after another
+module _ (schema : Schema) (journal : List Entry) (numbers : NumbersInOrder journal) (replies : RepliesHold schema journal) where
+  commits_run_from : (earlier es : List Entry) → earlier ++ es ≡ journal → CommitsRun schema (commits earlier) (made_of schema earlier) es
+  commits_run_from earlier [] whole = tt
+  commits_run_from earlier (entry.Commit own commit ∷ es) whole =
+      let number : breaks_number earlier (entry.Commit own commit) ≡ false = holds_here (λ earlier e. breaks_number earlier e ≡ false) journal earlier es (entry.Commit own commit) numbers whole in
+      let right : breaks_reply schema earlier (entry.Commit own commit) ≡ None = holds_here (λ earlier e. breaks_reply schema earlier e ≡ None) journal earlier es (entry.Commit own commit) replies whole in
+      let rest : CommitsRun schema (commits (earlier ++ entry.Commit own commit ∷ [])) (made_of schema (earlier ++ entry.Commit own commit ∷ [])) es = commits_run_from (earlier ++ entry.Commit own commit ∷ []) es (append_assoc earlier (entry.Commit own commit ∷ []) es ∙ whole) in
+      let runs : run schema (fold schema earlier (commits earlier)) own.done ≡ Some (after schema (fold schema earlier (commits earlier)) own.done) = right_runs schema (fold schema earlier (commits earlier)) (made_before earlier) 1 own.done right in
+      let next : commits (earlier ++ entry.Commit own commit ∷ []) ≡ suc (commits earlier) = let e = commits_more earlier (entry.Commit own commit) in omega (arith, e) in (
+        numbered (commit == (commits earlier + 1)) refl number,
+        subst (λ d. run schema d own.done ≡ Some (after schema d own.done)) (fold_all schema earlier) runs,
+        subst (λ n. CommitsRun schema n (after schema (made_of schema earlier) own.done) es) next
+            (subst (λ d. CommitsRun schema (commits (earlier ++ entry.Commit own commit ∷ [])) d es) (made_more schema earlier (entry.Commit own commit)) rest),
+      )
+    where
+      numbered : (b : Bool) → (commit == (commits earlier + 1)) ≡ b → not b ≡ false → commit ≡ suc (commits earlier)
+      numbered true e f = grind (arith, nat_tests)
+      numbered false e f = (cc)
+  commits_run_from earlier (entry.Read story ∷ es) whole =
+      passed_by schema earlier (entry.Read story) es refl refl (commits_run_from (earlier ++ entry.Read story ∷ []) es (append_assoc earlier (entry.Read story ∷ []) es ∙ whole))
+  commits_run_from earlier (entry.Abort story cause ∷ es) whole =
+      passed_by schema earlier (entry.Abort story cause) es refl refl (commits_run_from (earlier ++ entry.Abort story cause ∷ []) es (append_assoc earlier (entry.Abort story cause ∷ []) es ∙ whole))
+  commits_run_from earlier (entry.Handled client by at finished ∷ es) whole =
+      passed_by schema earlier (entry.Handled client by at finished) es refl refl (commits_run_from (earlier ++ entry.Handled client by at finished ∷ []) es (append_assoc earlier (entry.Handled client by at finished ∷ []) es ∙ whole))
+  commits_run_from earlier (entry.Closed client ∷ es) whole =
+      passed_by schema earlier (entry.Closed client) es refl refl (commits_run_from (earlier ++ entry.Closed client ∷ []) es (append_assoc earlier (entry.Closed client ∷ []) es ∙ whole))
+
+pub commits_run : (schema : Schema) (journal : List Entry) → NumbersInOrder journal → RepliesHold schema journal → CommitsRun schema 0 (empty (length schema.classes)) journal
+commits_run schema journal numbers replies = commits_run_from schema journal numbers replies [] journal refl
 
 -- the commit whose story stands at a place of those that are folded
 pub record IsCommitAt (schema : Schema) (n : ℕ) (db : Database) (es : List Entry) (k : ℕ) (done : List (Op × Reply)) : Type 0 where

@@ -3,7 +3,6 @@ pub mod KeysLemmas
 pub mod ClashLemmas
 pub mod SeekLemmas
 pub mod FitsLemmas
-pub mod FittingLemmas
 pub mod TouchLemmas
 pub mod LawsLemmas
 pub mod Rising
@@ -14,8 +13,11 @@ pub mod Spared
 pub mod Erasing
 pub mod ErasedStory
 pub mod WrittenObjects
+pub mod PartLemmas
+pub mod EndingLemmas
 pub mod LegalCommits
 pub mod Validating
+pub mod OrderedLemmas
 pub mod SerialReads
 pub mod SerialPlaces
 pub mod SerialBefore
@@ -23,6 +25,7 @@ pub mod EventLemmas
 pub mod EventIds
 pub mod MadeObjects
 pub mod CommitSound
+pub mod KeptLaw
 pub mod FirstFaultLemmas
 pub mod TallyLemmas
 pub mod JudgingLemmas

@@ -1,26 +1,15 @@
 -- What had ended when a transaction of a legal journal began comes before it in serial order.
-use Rattle.std.proofs.Common.{◌≡◌, ℕ, zero, suc, ◌+◌, ◌<◌, ◌≤◌, Bool, true, false, ◌&&◌, ◌⊎◌, inl, inr, not, List, [], ◌∷◌, ◌++◌, length, take, slice_get, filter_map, Some, nat_eq, nat_le, refl, sym, ap, subst, ◌∙◌, arith, append_assoc, append-nil, take-take, take_all, length-take}
+use Rattle.std.proofs.Common.{◌≡◌, ℕ, ◌+◌, ◌<◌, ◌≤◌, Bool, true, false, ◌&&◌, ◌⊎◌, inl, inr, not, List, length, take, slice_get, filter_map, Some, nat_eq, nat_le, refl, sym, ap, subst, ◌∙◌, arith, take-take, take_all, length-take}
 use Rattle.std.proofs.lemmas.Bool.{cases_lt}
 use Rattle.std.proofs.lemmas.Bool.Decides.{nat_tests}
 use Rattle.rdb_base.specs.declared.journal.Story.{Story}
 use Rattle.rdb_base.specs.declared.journal.Entry.{Entry}
 use Rattle.rdb_base.specs.declared.journal.Entry.TheVariants as entry
-use Rattle.rdb_schema.specs.declared.schema.Schema.{Schema}
-use Rattle.rdb_model.specs.declared.legality.Legality.TheVariants as legality
-use Rattle.rdb_model.specs.Journal.{commits, is_placed, judged, IsLegal}
+use Rattle.rdb_model.specs.Journal.{commits, is_placed}
+use Rattle.rdb_model.specs.Parts.{IsWellPlaced}
 use Rattle.rdb_model.specs.Serial.{read_at, committed_stories, serial_order}
 use Rattle.rdb_model.specs.SerialRun.{ordered_story, ComesBefore}
-use Rattle.rdb_model.proofs.LegalCommits.{IsWhole, judged_first}
 use Rattle.rdb_model.proofs.SerialPlaces.{IsIn, StandsBefore, get_filtered, filtered_grows, filtered_more, commit_story, stories_filtered, commits_filtered, block, read_read, same_block, read_commit, commit_read, commit_commit}
-
--- what stands at a place of a legal journal is whole after those before it
-pub whole_at : (schema : Schema) (earlier es : List Entry) (i : ℕ) (e : Entry) → judged schema earlier es ≡ legality.Legal → slice_get es i ≡ Some e → IsWhole schema (earlier ++ take i es) e
-whole_at schema earlier [] i e legal is = (cc)
-whole_at schema earlier (x ∷ xs) zero e legal is =
-    let same : x ≡ e = (cc) in
-    subst (λ j. IsWhole schema j e) (sym (append-nil earlier)) (subst (λ y. IsWhole schema earlier y) same (judged_first schema earlier x xs legal).0)
-whole_at schema earlier (x ∷ xs) (suc i) e legal is =
-    subst (λ j. IsWhole schema j e) (append_assoc earlier (x ∷ []) (take i xs)) (whole_at schema (earlier ++ x ∷ []) xs i e (judged_first schema earlier x xs legal).1 is)
 
 -- the parts of a place
 record IsPlaced (earlier : List Entry) (story : Story) : Type 0 where
@@ -89,7 +78,7 @@ module _ (journal : List Entry) where
         get_filtered (read_at s.snapshot) journal j (entry.Read t) t is_t also,
       )
 
-  -- the place of a story in a legal journal, by the whole of it
+  -- the place of a story in a well placed journal, by the whole of it
   record StandsAt (j : ℕ) (story : Story) : Type 0 where
     began : story.begun ≤ j
     sees_enough : before story.begun ≤ story.snapshot
@@ -104,12 +93,12 @@ module _ (journal : List Entry) where
         sees_past = p.sees_past;
       }
 
-  module _ (schema : Schema) (legal : IsLegal schema journal) where
+  module _ (placed : IsWellPlaced journal) where
     commit_stands : (j : ℕ) (story : Story) (commit : ℕ) → slice_get journal j ≡ Some (entry.Commit story commit) → StandsAt j story
-    commit_stands j story commit is = stands_at j story (placed_from (take j journal) story (whole_at schema [] journal j (entry.Commit story commit) legal is).placed)
+    commit_stands j story commit is = stands_at j story (placed_from (take j journal) story (placed j (entry.Commit story commit) is))
 
     read_stands : (j : ℕ) (story : Story) → slice_get journal j ≡ Some (entry.Read story) → StandsAt j story
-    read_stands j story is = stands_at j story (placed_from (take j journal) story (whole_at schema [] journal j (entry.Read story) legal is).placed)
+    read_stands j story is = stands_at j story (placed_from (take j journal) story (placed j (entry.Read story) is))
 
     commits_in_turn : (i j : ℕ) (s t : Story) (c d : ℕ) → slice_get journal i ≡ Some (entry.Commit s c) → slice_get journal j ≡ Some (entry.Commit t d) → i < t.begun → ComesBefore (serial_order journal) s t
     commits_in_turn i j s t c d is_s is_t lt =
@@ -159,5 +148,5 @@ module _ (journal : List Entry) where
         subst (λ x. ComesBefore (serial_order journal) x second) same_a (subst (λ y. ComesBefore (serial_order journal) s y) same_b (reads_before i j s t is_a is_b (subst (λ y. i < y.begun) (sym same_b) lt)))
     any_before i j _ _ first second is_a is_b has_a has_b lt = (cc)
 
-pub ended_before : (schema : Schema) (journal : List Entry) (i j : ℕ) (a b : Entry) (first second : Story) → IsLegal schema journal → slice_get journal i ≡ Some a → slice_get journal j ≡ Some b → ordered_story a ≡ Some first → ordered_story b ≡ Some second → i < second.begun → ComesBefore (serial_order journal) first second
-ended_before schema journal i j a b first second legal = any_before journal schema legal i j a b first second
+pub ended_before : (journal : List Entry) (i j : ℕ) (a b : Entry) (first second : Story) → IsWellPlaced journal → slice_get journal i ≡ Some a → slice_get journal j ≡ Some b → ordered_story a ≡ Some first → ordered_story b ≡ Some second → i < second.begun → ComesBefore (serial_order journal) first second
+ended_before journal i j a b first second placed = any_before journal placed i j a b first second

@@ -1,4 +1,4 @@
--- The stories of a legal journal in serial order, run one after another.
+-- The stories of a journal in serial order, run one after another.
 use Rattle.std.proofs.Common.{◌≡◌, ℕ, suc, ◌+◌, ◌≤◌, Bool, true, false, ◌&&◌, not, cond, List, [], ◌∷◌, ◌++◌, length, map, take, filter_map, Some, None, Contains, nat_eq, nat_le, refl, sym, ap, subst, ◌∙◌, arith, append_assoc}
 use Rattle.std.specs.List.{cons_option}
 use Rattle.std.proofs.lemmas.Bool.Decides.{nat_tests}
@@ -12,15 +12,16 @@ use Rattle.rdb_base.specs.declared.journal.Story.{Story}
 use Rattle.rdb_base.specs.declared.journal.Entry.{Entry}
 use Rattle.rdb_base.specs.declared.journal.Entry.TheVariants as entry
 use Rattle.rdb_schema.specs.declared.schema.Schema.{Schema}
-use Rattle.rdb_model.specs.declared.legality.Legality.TheVariants as legality
 use Rattle.rdb_model.specs.Database.{Database, empty}
 use Rattle.rdb_model.specs.Answer.{answer}
 use Rattle.rdb_model.specs.Story.{same_reply, run, after}
-use Rattle.rdb_model.specs.Journal.{commits, committed, after_all, fold, is_placed, judged, IsLegal}
+use Rattle.rdb_model.specs.Journal.{commits, committed, after_all, fold, made_before, is_placed, breaks_place, breaks_reply}
+use Rattle.rdb_model.specs.Parts.{NumbersInOrder, IsWellPlaced, RepliesHold}
 use Rattle.rdb_model.specs.Fits.{fits, AllFit}
 use Rattle.rdb_model.specs.Serial.{read_at, committed_stories, interleaved, serial_order}
 use Rattle.rdb_model.specs.SerialRun.{operations_of, ReadsFit}
-use Rattle.rdb_model.proofs.LegalCommits.{CommitsRun, IsWhole, commits_are, commits_run, right_runs, judged_first, fold_all}
+use Rattle.rdb_model.proofs.PartLemmas.{holds_here}
+use Rattle.rdb_model.proofs.LegalCommits.{CommitsRun, commits_are, commits_run, right_runs, fold_all}
 
 -- two runs, one after the other
 pub run_append : (schema : Schema) (xs ys : List (Op × Reply)) (db next : Database) → run schema db xs ≡ Some next → run schema db (xs ++ ys) ≡ run schema next ys
@@ -130,32 +131,31 @@ contains_at : (earlier : List Entry) (e : Entry) (es : List Entry) → Contains 
 contains_at [] e es = (0, omega arith, refl)
 contains_at (x ∷ xs) e es = let c = contains_at xs e es in (suc c.0, omega (arith, c.1), c.2)
 
-module _ (schema : Schema) (journal : List Entry) (fit : ReadsFit schema journal) (n : ℕ) where
-  -- the reads of a legal journal run on the database that they see
-  reads_run : (earlier es : List Entry) → earlier ++ es ≡ journal → judged schema earlier es ≡ legality.Legal → ReadsRun schema n (fold schema journal n) es
-  reads_run earlier [] whole legal = tt
-  reads_run earlier (entry.Read story ∷ es) whole legal =
-      let both = judged_first schema earlier (entry.Read story) es legal in
-      (λ sees. runs both.0 sees, reads_run (earlier ++ entry.Read story ∷ []) es (append_assoc earlier (entry.Read story ∷ []) es ∙ whole) both.1)
+module _ (schema : Schema) (journal : List Entry) (placed : IsWellPlaced journal) (replies : RepliesHold schema journal) (fit : ReadsFit schema journal) (n : ℕ) where
+  -- the reads of a journal run on the database that they see
+  reads_run : (earlier es : List Entry) → earlier ++ es ≡ journal → ReadsRun schema n (fold schema journal n) es
+  reads_run earlier [] whole = tt
+  reads_run earlier (entry.Read story ∷ es) whole = (runs, reads_run (earlier ++ entry.Read story ∷ []) es (append_assoc earlier (entry.Read story ∷ []) es ∙ whole))
     where
-      runs : IsWhole schema earlier (entry.Read story) → nat_eq story.snapshot n ≡ true → run schema (fold schema journal n) story.done ≡ Some (fold schema journal n)
-      runs w sees =
+      runs : nat_eq story.snapshot n ≡ true → run schema (fold schema journal n) story.done ≡ Some (fold schema journal n)
+      runs sees =
           let same : story.snapshot ≡ n = grind (arith, nat_tests) in
-          let below : story.snapshot ≤ commits earlier = snapshot_below earlier story w.placed in
-          let right : run schema (fold schema earlier story.snapshot) story.done ≡ Some (after schema (fold schema earlier story.snapshot) story.done) = right_runs schema (fold schema earlier story.snapshot) [] 1 story.done w.replies in
+          let below : story.snapshot ≤ commits earlier = snapshot_below earlier story (holds_here (λ earlier e. breaks_place earlier e ≡ false) journal earlier es (entry.Read story) placed whole) in
+          let none : breaks_reply schema earlier (entry.Read story) ≡ None = holds_here (λ earlier e. breaks_reply schema earlier e ≡ None) journal earlier es (entry.Read story) replies whole in
+          let right : run schema (fold schema earlier story.snapshot) story.done ≡ Some (after schema (fold schema earlier story.snapshot) story.done) = right_runs schema (fold schema earlier story.snapshot) (made_before earlier) 1 story.done none in
           let alike : fold schema earlier story.snapshot ≡ fold schema journal n = fold_front schema earlier (entry.Read story ∷ es) story.snapshot below ∙ ap (λ j. fold schema j story.snapshot) whole ∙ ap (fold schema journal) same in
           let stands : Contains journal (entry.Read story) = subst (λ j. Contains j (entry.Read story)) whole (contains_at earlier (entry.Read story) es) in
           let stays : after schema (fold schema journal n) story.done ≡ fold schema journal n = reads_stay schema (fold schema journal n) story.done (fit story stands) in
           subst (λ d. run schema d story.done ≡ Some (after schema d story.done)) alike right ∙ ap Some stays
-  reads_run earlier (entry.Commit story commit ∷ es) whole legal = reads_run (earlier ++ entry.Commit story commit ∷ []) es (append_assoc earlier (entry.Commit story commit ∷ []) es ∙ whole) (judged_first schema earlier (entry.Commit story commit) es legal).1
-  reads_run earlier (entry.Abort story cause ∷ es) whole legal = reads_run (earlier ++ entry.Abort story cause ∷ []) es (append_assoc earlier (entry.Abort story cause ∷ []) es ∙ whole) (judged_first schema earlier (entry.Abort story cause) es legal).1
-  reads_run earlier (entry.Handled client by at finished ∷ es) whole legal = reads_run (earlier ++ entry.Handled client by at finished ∷ []) es (append_assoc earlier (entry.Handled client by at finished ∷ []) es ∙ whole) (judged_first schema earlier (entry.Handled client by at finished) es legal).1
-  reads_run earlier (entry.Closed client ∷ es) whole legal = reads_run (earlier ++ entry.Closed client ∷ []) es (append_assoc earlier (entry.Closed client ∷ []) es ∙ whole) (judged_first schema earlier (entry.Closed client) es legal).1
+  reads_run earlier (entry.Commit story commit ∷ es) whole = reads_run (earlier ++ entry.Commit story commit ∷ []) es (append_assoc earlier (entry.Commit story commit ∷ []) es ∙ whole)
+  reads_run earlier (entry.Abort story cause ∷ es) whole = reads_run (earlier ++ entry.Abort story cause ∷ []) es (append_assoc earlier (entry.Abort story cause ∷ []) es ∙ whole)
+  reads_run earlier (entry.Handled client by at finished ∷ es) whole = reads_run (earlier ++ entry.Handled client by at finished ∷ []) es (append_assoc earlier (entry.Handled client by at finished ∷ []) es ∙ whole)
+  reads_run earlier (entry.Closed client ∷ es) whole = reads_run (earlier ++ entry.Closed client ∷ []) es (append_assoc earlier (entry.Closed client ∷ []) es ∙ whole)
 
--- a legal journal in serial order is one run, which ends in the database after all commits
-pub serial_runs : (schema : Schema) (journal : List Entry) → IsLegal schema journal → ReadsFit schema journal → run schema (empty (length schema.classes)) (operations_of (serial_order journal)) ≡ Some (fold schema journal (commits journal))
-serial_runs schema journal legal fit =
-    run_interleaved schema journal (committed_stories journal) 0 (empty (length schema.classes)) (stories_run schema 0 (empty (length schema.classes)) journal (commits_run schema [] journal legal)) reads
+-- a journal in serial order is one run, which ends in the database after all commits
+pub serial_runs : (schema : Schema) (journal : List Entry) → NumbersInOrder journal → IsWellPlaced journal → RepliesHold schema journal → ReadsFit schema journal → run schema (empty (length schema.classes)) (operations_of (serial_order journal)) ≡ Some (fold schema journal (commits journal))
+serial_runs schema journal numbers placed replies fit =
+    run_interleaved schema journal (committed_stories journal) 0 (empty (length schema.classes)) (stories_run schema 0 (empty (length schema.classes)) journal (commits_run schema journal numbers replies)) reads
     ∙ ap (λ l. Some (after_all schema (empty (length schema.classes)) l)) (stories_are journal)
     ∙ ap Some (sym (fold_all schema journal))
   where
@@ -163,4 +163,4 @@ serial_runs schema journal legal fit =
     reads i le =
         let here : 0 + i ≡ i = omega arith in
         subst (λ m. ReadsRun schema m (after_all schema (empty (length schema.classes)) (take i (map (λ s. s.done) (committed_stories journal)))) journal) (sym here)
-        (subst (λ l. ReadsRun schema i (after_all schema (empty (length schema.classes)) (take i l)) journal) (sym (stories_are journal)) (reads_run schema journal fit i [] journal refl legal))
+        (subst (λ l. ReadsRun schema i (after_all schema (empty (length schema.classes)) (take i l)) journal) (sym (stories_are journal)) (reads_run schema journal placed replies fit i [] journal refl))

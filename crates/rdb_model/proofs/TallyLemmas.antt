@@ -12,8 +12,9 @@ use Rattle.std.proofs.lemmas.List.Folds.{list_any-append}
 use Rattle.rdb_base.specs.declared.journal.Story.{Story}
 use Rattle.rdb_base.specs.declared.journal.Entry.{Entry}
 use Rattle.rdb_base.specs.declared.journal.Entry.TheVariants as entry
-use Rattle.rdb_model.specs.Journal.{is_commit, commits, ended, left_client, has_ended, has_left, is_placed, was_made}
-use Rattle.rdb_model.specs.Tallies.{two_cmp, Counts, HasEnded, HasLeft, HasMade, reads_after, sees, AreReaders}
+use Rattle.rdb_base.specs.Entries.{is_commit}
+use Rattle.rdb_model.specs.Journal.{commits, is_placed, was_made}
+use Rattle.rdb_model.specs.Tallies.{two_cmp, Counts, HasMade, reads_after, sees, AreReaders}
 use Rattle.rdb_model.proofs.FirstFaultLemmas.{slice_get_middle}
 
 -- one commit more, if the entry is one
@@ -98,56 +99,7 @@ pub or_none : (b : Bool) → b ≡ (b || false)
 or_none true = refl
 or_none false = refl
 
--- what has ended and left, with one entry more
-pub ended_more : (earlier : List Entry) (e : Entry) (tx : ℕ × ℕ) (old new : BTreeSet (ℕ × ℕ)) → ended e ≡ Some tx → HasEnded earlier old → ((q : ℕ × ℕ) → contains two_cmp new q ≡ cond (is_eq (two_cmp tx q)) true (contains two_cmp old q)) → HasEnded (earlier ++ e ∷ []) new
-ended_more earlier e tx old new is have put = record { same = at }
-  where
-    at : (q : ℕ × ℕ) → contains two_cmp new q ≡ has_ended (earlier ++ e ∷ []) q
-    at q =
-        put q
-        ∙ ap₂ (λ a b. cond a true b) (two_is tx q) (have.same q)
-        ∙ cond_or ((tx.0 == q.0) && (tx.1 == q.1)) (has_ended earlier q)
-        ∙ ap (λ o. has_ended earlier q || (option_map_or (λ (t : ℕ × ℕ). (t.0 == q.0) && (t.1 == q.1)) o false || false)) (sym is)
-        ∙ sym (list_any-append (λ x. option_map_or (λ (t : ℕ × ℕ). (t.0 == q.0) && (t.1 == q.1)) (ended x) false) earlier (e ∷ []))
-
-pub ended_same : (earlier : List Entry) (e : Entry) (old : BTreeSet (ℕ × ℕ)) → ended e ≡ None → HasEnded earlier old → HasEnded (earlier ++ e ∷ []) old
-ended_same earlier e old is have = record { same = at }
-  where
-    at : (q : ℕ × ℕ) → contains two_cmp old q ≡ has_ended (earlier ++ e ∷ []) q
-    at q =
-        have.same q
-        ∙ or_none (has_ended earlier q)
-        ∙ ap (λ o. has_ended earlier q || (option_map_or (λ (t : ℕ × ℕ). (t.0 == q.0) && (t.1 == q.1)) o false || false)) (sym is)
-        ∙ sym (list_any-append (λ x. option_map_or (λ (t : ℕ × ℕ). (t.0 == q.0) && (t.1 == q.1)) (ended x) false) earlier (e ∷ []))
-
-pub left_more : (earlier : List Entry) (e : Entry) (client : ℕ) (old new : BTreeSet ℕ) → left_client e ≡ Some client → HasLeft earlier old → ((q : ℕ) → contains nat_cmp new q ≡ cond (is_eq (nat_cmp client q)) true (contains nat_cmp old q)) → HasLeft (earlier ++ e ∷ []) new
-left_more earlier e client old new is have put = record { same = at }
-  where
-    at : (q : ℕ) → contains nat_cmp new q ≡ has_left (earlier ++ e ∷ []) q
-    at q =
-        put q
-        ∙ ap₂ (λ a b. cond a true b) (unsigned_tied client q) (have.same q)
-        ∙ cond_or (client == q) (has_left earlier q)
-        ∙ ap (λ o. has_left earlier q || (option_map_or (λ c. c == q) o false || false)) (sym is)
-        ∙ sym (list_any-append (λ x. option_map_or (λ c. c == q) (left_client x) false) earlier (e ∷ []))
-
-pub left_same : (earlier : List Entry) (e : Entry) (old : BTreeSet ℕ) → left_client e ≡ None → HasLeft earlier old → HasLeft (earlier ++ e ∷ []) old
-left_same earlier e old is have = record { same = at }
-  where
-    at : (q : ℕ) → contains nat_cmp old q ≡ has_left (earlier ++ e ∷ []) q
-    at q =
-        have.same q
-        ∙ or_none (has_left earlier q)
-        ∙ ap (λ o. has_left earlier q || (option_map_or (λ c. c == q) o false || false)) (sym is)
-        ∙ sym (list_any-append (λ x. option_map_or (λ c. c == q) (left_client x) false) earlier (e ∷ []))
-
 -- nothing at first
-pub ended_first : (ended : BTreeSet (ℕ × ℕ)) → ended.keys ≡ [] → HasEnded [] ended
-ended_first ended is = record { same = λ q. ap (list_any (λ k. is_eq (two_cmp q k))) is }
-
-pub left_first : (left : BTreeSet ℕ) → left.keys ≡ [] → HasLeft [] left
-left_first left is = record { same = λ q. ap (list_any (λ k. is_eq (nat_cmp q k))) is }
-
 pub made_first : (made : BTreeSet (ℕ × ℕ)) → made.keys ≡ [] → HasMade [] made
 made_first made is = record { same = λ q. ap (list_any (λ k. is_eq (two_cmp q k))) is }
 

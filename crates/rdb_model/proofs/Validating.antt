@@ -12,7 +12,8 @@ use Rattle.rdb_schema.specs.declared.schema.Schema.{Schema}
 use Rattle.rdb_model.specs.Database.{Database, empty, objects_of}
 use Rattle.rdb_model.specs.Answer.{answer}
 use Rattle.rdb_model.specs.Story.{run, after}
-use Rattle.rdb_model.specs.Journal.{committed, after_all, fold, made_by, made_in, IsLegal}
+use Rattle.rdb_model.specs.Journal.{committed, after_all, fold, made_by, made_in}
+use Rattle.rdb_model.specs.Parts.{NumbersInOrder, RepliesHold}
 use Rattle.rdb_model.specs.Touch.{rests_on, touches, written_by}
 use Rattle.rdb_model.specs.Validation.{was_written, LeavesAlone, AreLeftAlone, RunsAfter}
 use Rattle.rdb_model.proofs.Rising.{IsRising}
@@ -23,7 +24,7 @@ use Rattle.rdb_model.proofs.WrittenObjects.{wrote_these}
 use Rattle.rdb_model.proofs.LegalCommits.{commits_run, IsCommitAt, commit_at}
 
 -- the databases of a journal are in order
-rising_empty : (classes class : ℕ) → IsRising (objects_of (empty classes) class)
+pub rising_empty : (classes class : ℕ) → IsRising (objects_of (empty classes) class)
 rising_empty zero class = tt
 rising_empty (suc n) zero = tt
 rising_empty (suc n) (suc class) = rising_empty n class
@@ -143,13 +144,13 @@ after_last schema db [] (suc m) is = refl
 after_last schema db (y ∷ ys) zero is = (cc)
 after_last schema db (y ∷ ys) (suc m) is = after_last schema (after schema db y) ys m is
 
-module _ (schema : Schema) (journal : List Entry) (legal : IsLegal schema journal) (story : Story) (from to : ℕ) (alone : AreLeftAlone schema journal from to story) where
+module _ (schema : Schema) (journal : List Entry) (numbers : NumbersInOrder journal) (replies : RepliesHold schema journal) (story : Story) (from to : ℕ) (alone : AreLeftAlone schema journal from to story) where
   runs_one : (m : ℕ) → from ≤ m → suc m ≤ to → RunsAfter schema journal m story → RunsAfter schema journal (suc m) story
   runs_one m after_from up_to runs = go (slice_get (filter_map committed journal) m) refl
     where
       go : (o : Option (List (Op × Reply))) → slice_get (filter_map committed journal) m ≡ o → RunsAfter schema journal (suc m) story
       go None e = subst (λ db. IsSome (run schema db story.done)) (sym (after_last schema (empty (length schema.classes)) (filter_map committed journal) m e)) runs
-      go (Some done) e = at_commit (commit_at schema journal 0 (empty (length schema.classes)) m done (commits_run schema [] journal legal) e)
+      go (Some done) e = at_commit (commit_at schema journal 0 (empty (length schema.classes)) m done (commits_run schema journal numbers replies) e)
         where
           at_commit : IsCommitAt schema 0 (empty (length schema.classes)) journal m done → RunsAfter schema journal (suc m) story
           at_commit c =
@@ -173,5 +174,5 @@ module _ (schema : Schema) (journal : List Entry) (legal : IsLegal schema journa
       go (inl lt) rest = let same : from ≡ suc n = omega arith in subst (λ n. RunsAfter schema journal n story) same runs
       go (inr ge) rest = runs_one n ge up_to (rest ge)
 
-pub still_runs : (schema : Schema) (journal : List Entry) (story : Story) (from to : ℕ) → IsLegal schema journal → from ≤ to → RunsAfter schema journal from story → AreLeftAlone schema journal from to story → RunsAfter schema journal to story
-still_runs schema journal story from to legal le runs alone = runs_to schema journal legal story from to alone to le (omega arith) runs
+pub still_runs : (schema : Schema) (journal : List Entry) (story : Story) (from to : ℕ) → NumbersInOrder journal → RepliesHold schema journal → from ≤ to → RunsAfter schema journal from story → AreLeftAlone schema journal from to story → RunsAfter schema journal to story
+still_runs schema journal story from to numbers replies le runs alone = runs_to schema journal numbers replies story from to alone to le (omega arith) runs

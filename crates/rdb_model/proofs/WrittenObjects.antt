@@ -10,7 +10,8 @@ use Rattle.rdb_model.specs.Database.{Row, Objects, Database, row_of, with_row, w
 use Rattle.rdb_schema.specs.Indexes.{indexes_of}
 use Rattle.rdb_model.specs.Answer.{clash, answer}
 use Rattle.rdb_model.specs.Story.{same_reply, run}
-use Rattle.rdb_model.specs.Touch.{class_of, written_by}
+use Rattle.rdb_base.specs.Operations.{class_of}
+use Rattle.rdb_model.specs.Touch.{written_by}
 use Rattle.rdb_model.proofs.Rising.{without_with_row_same, without_twice}
 use Rattle.rdb_model.proofs.ClassAnswers.{local_write, local_put, local_del, local, changed, answer_local}
 use Rattle.rdb_model.proofs.ReplyLemmas.{same_reply_is}

@@ -119,18 +119,25 @@ answer schema db (op.Get class id) = (option_map_or reply.Row (row_of (objects_o
 answer schema db (op.Put class id row) =
     let objects = objects_of db class in
     if is_none (row_of objects id) then (reply.NotFound, db)
-    else written (clash (indexes_of schema class) 0 row (without objects id)) reply.Done db (with_objects db class (with_row objects id row))
+    else written (clash (indexes_of schema class) 0 row (without objects id)) reply.Done db
+    (with_objects db class (with_row objects id row))
 answer schema db (op.Del class id) =
     let objects = objects_of db class in
     if is_none (row_of objects id) then (reply.NotFound, db) else (reply.Done, with_objects db class (without objects id))
 answer schema db (op.Find class at wanted) = (reply.Ids (ids_where (has_key (fields_of schema class at) wanted) (objects_of db class)), db)
-answer schema db (op.Seek class at from up) =
-    (option_map_or (λ pair. reply.At pair.0 pair.1) (sought from up (index (fields_of schema class at) (objects_of db class))) reply.End, db)
+answer schema db (op.Seek class at from up) = (
+  option_map_or (λ pair. reply.At pair.0 pair.1)
+      (sought from up (index (fields_of schema class at) (objects_of db class))) reply.End,
+  db,
+)
 answer schema db (op.Area class at rect inside) =
     let fields = fields_of schema class at in
     (reply.Ids (ids_where (λ row. meets rect inside (key fields row)) (objects_of db class)), db)
 answer schema db (op.Prefix class at text way) =
     let fields = fields_of schema class at in
-    let objects = objects_of db class in
-    (reply.Ids (ids_where (λ row. option_map_or (is_found way text (longest_prefix fields text objects)) (words_of (key fields row)) false) objects), db)
+    let objects = objects_of db class in (
+      reply.Ids (ids_where (λ row.
+          option_map_or (is_found way text (longest_prefix fields text objects)) (words_of (key fields row)) false) objects),
+      db,
+    )
 answer schema db (op.Count class) = (reply.Count (length (objects_of db class)), db)

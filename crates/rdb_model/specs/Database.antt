@@ -48,3 +48,7 @@ objects_of db class = slice_index_or db class []
 -- the database, with these objects in that class
 abbrev pub with_objects : Database → ℕ → Objects → Database
 with_objects db class objects = slice_set db class objects
+
+-- that in each class the ids ascend, each once
+abbrev pub IsInOrder : Database → Type 0
+IsInOrder db = (class : ℕ) → IsAscending (objects_of db class)

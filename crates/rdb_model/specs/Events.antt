@@ -40,16 +40,19 @@ event_ids kind before after = filter (λ id. happened kind (row_of before id) (r
 abbrev pub events_of_object : ℕ → ℕ → ℕ → List Event → Option Row → Option Row → List (ℕ × ℕ × ℕ)
 events_of_object class id number [] before after = []
 events_of_object class id number (e ∷ es) before after =
-    cons_option (if happened e.kind before after then Some (class, id, number) else None) (events_of_object class id (number + 1) es before after)
+    cons_option (if happened e.kind before after then Some (class, id, number) else None)
+    (events_of_object class id (number + 1) es before after)
 
 -- a class's events, object after object
 abbrev pub events_of_class : ℕ → List Event → Objects → Objects → List (ℕ × ℕ × ℕ)
-events_of_class class events before after = flat_map (λ id. events_of_object class id 0 events (row_of before id) (row_of after id)) (ids_of_both before after)
+events_of_class class events before after =
+    flat_map (λ id. events_of_object class id 0 events (row_of before id) (row_of after id)) (ids_of_both before after)
 
 -- the events of classes, from that number on
 abbrev pub events_of_classes : ℕ → List Class → Database → Database → List (ℕ × ℕ × ℕ)
 events_of_classes class [] before after = []
-events_of_classes class (c ∷ cs) before after = events_of_class class c.events (objects_of before class) (objects_of after class) ++ events_of_classes (class + 1) cs before after
+events_of_classes class (c ∷ cs) before after =
+    events_of_class class c.events (objects_of before class) (objects_of after class) ++ events_of_classes (class + 1) cs before after
 
 -- the events of a commit, each a class, an id and the number of the class's event, in the order of class, then id, then number
 abbrev pub commit_events : Schema → Database → Database → List (ℕ × ℕ × ℕ)
@@ -57,7 +60,8 @@ commit_events schema before after = events_of_classes 0 schema.classes before af
 
 -- the kind of a class's event
 abbrev pub event_kind : Schema → ℕ → ℕ → Option EventKind
-event_kind schema class event = option_map (λ e. e.kind) (slice_get (option_map_or (λ c. c.events) (slice_get schema.classes class) []) event)
+event_kind schema class event =
+    option_map (λ e. e.kind) (slice_get (option_map_or (λ c. c.events) (slice_get schema.classes class) []) event)
 
 -- the pairs of a commit and an id to which an event of a kind happened in a class, of the first n commits, ids ascending
 abbrev pub events_up_to : Schema → ℕ → EventKind → List Entry → ℕ → List (ℕ × ℕ)
@@ -68,7 +72,8 @@ events_up_to schema class kind journal (suc n) =
 
 -- the event list of a class's event in a journal
 abbrev pub event_list : Schema → ℕ → ℕ → List Entry → List (ℕ × ℕ)
-event_list schema class event journal = option_map_or (λ kind. events_up_to schema class kind journal (commits journal)) (event_kind schema class event) []
+event_list schema class event journal =
+    option_map_or (λ kind. events_up_to schema class kind journal (commits journal)) (event_kind schema class event) []
 
 -- whether a pair of a commit and an id is behind a place: of a later commit, or of the same one with a greater id
 abbrev pub is_behind : ℕ × ℕ → ℕ × ℕ → Bool
@@ -82,4 +87,5 @@ next_event place events = find (is_behind place) events
 abbrev pub HappenedIn : Schema → ℕ → EventKind → List Entry → ℕ × ℕ → Type 0
 HappenedIn schema class kind journal pair =
     (0 < pair.0) × (pair.0 ≤ commits journal)
-    × (happened kind (row_of (objects_of (fold schema journal (pair.0 - 1)) class) pair.1) (row_of (objects_of (fold schema journal pair.0) class) pair.1) ≡ true)
+    × (happened kind (row_of (objects_of (fold schema journal (pair.0 - 1)) class) pair.1)
+    (row_of (objects_of (fold schema journal pair.0) class) pair.1) ≡ true)

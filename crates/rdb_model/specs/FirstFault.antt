@@ -11,6 +11,7 @@ use Rattle.rdb_model.specs.declared.legality.Legality.{Legality}
 use Rattle.rdb_model.specs.declared.legality.Legality.TheVariants as legality
 use Rattle.rdb_model.specs.declared.legality.Why.{Why}
 use Rattle.rdb_model.specs.declared.legality.Why.TheVariants as why
+use Rattle.rdb_model.specs.declared.legality.Span.{Span}
 use Rattle.rdb_model.specs.Database.{Database}
 use Rattle.rdb_model.specs.Fits.{AllFit}
 use Rattle.rdb_model.specs.Journal.{breaks_number, breaks_twice, breaks_place, wrong_reply}
@@ -28,17 +29,18 @@ FitsEntry schema (entry.Abort story cause) = FitsStory schema kind.ReadWrite sto
 FitsEntry schema _ = Unit {0}
 
 -- the first of number, twice and place that an entry breaks, after the earlier ones
-abbrev pub misplaced : List Entry → Entry → Option Why
-misplaced earlier e =
+abbrev pub misplaced : Span → List Entry → Entry → Option Why
+misplaced within earlier e =
     if breaks_number earlier e then Some why.Number
-    else (if breaks_twice earlier e then Some why.Twice
+    else (if breaks_twice within earlier e then Some why.Twice
     else (if breaks_place earlier e then Some why.Place
     else None))
 
 -- the first entry with a fault, of those that come after the earlier ones: its place, from 0, and the fault
 abbrev pub first_at : {A : Type 0} → (List Entry → Entry → Option A) → List Entry → List Entry → Option (ℕ × A)
 first_at fault earlier [] = None
-first_at fault earlier (e ∷ es) = option_or (option_map (λ f. (length earlier, f)) (fault earlier e)) (first_at fault (earlier ++ e ∷ []) es)
+first_at fault earlier (e ∷ es) =
+    option_or (option_map (λ f. (length earlier, f)) (fault earlier e)) (first_at fault (earlier ++ e ∷ []) es)
 
 -- the fault of the entry at a place
 abbrev pub fault_at : {A : Type 0} → (List Entry → Entry → Option A) → List Entry → ℕ → Option A

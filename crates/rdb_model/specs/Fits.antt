@@ -1,7 +1,8 @@
 -- Which operations fit a schema, and which databases.
-use Rattle.std.specs.Prelude.{ℕ, Bool, true, false, ◌&&◌, ◌≤◌, nat_lt, nat_le, int_le, List, [], length, slice_get, IsTrue}
+use Rattle.std.specs.Prelude.{ℕ, Bool, true, false, ◌&&◌, nat_lt, nat_le, int_le, List, length, slice_get, IsTrue}
 use Rattle.std.specs.List.{All}
 use Rattle.std.specs.Option.{option_map_or}
+use Rattle.rdb_base.specs.declared.limits.TheConstants.{MAX_ROW, MAX_TEXT}
 use Rattle.rdb_base.specs.declared.identity.Kind.{Kind}
 use Rattle.rdb_base.specs.declared.identity.Kind.TheVariants as kind
 use Rattle.rdb_base.specs.declared.operation.Op.{Op}
@@ -19,9 +20,9 @@ use Rattle.rdb_model.specs.Database.{Row}
 abbrev pub has_class : Schema → ℕ → Bool
 has_class schema class = nat_lt class (length schema.classes)
 
--- whether a row is one of the class, and its encoding at most 4,000 bytes long
+-- whether a row is one of the class, and its encoding isn't too long
 abbrev pub fits_row : Schema → ℕ → Row → Bool
-fits_row schema class row = row_holds schema class row && nat_le (row_length schema class row) 4000
+fits_row schema class row = row_holds schema class row && nat_le (row_length schema class row) MAX_ROW
 
 -- whether a key has the index's key fields' types
 abbrev pub fits_key : Schema → ℕ → ℕ → Row → Bool
@@ -51,17 +52,14 @@ fits schema (op.Put class id row) kind = may_write kind && fits_row schema class
 fits schema (op.Del class id) kind = may_write kind && has_class schema class
 fits schema (op.Find class index key) kind = has_index schema class index finds_keys && fits_key schema class index key
 fits schema (op.Seek class index from up) kind = has_index schema class index is_tree && fits_place schema class index from
-fits schema (op.Area class index rect inside) kind = has_index schema class index is_rtree && (int_le rect.x1 rect.x2 && int_le rect.y1 rect.y2)
-fits schema (op.Prefix class index text way) kind = has_index schema class index is_patricia && nat_le (length text) 255
+fits schema (op.Area class index rect inside) kind =
+    has_index schema class index is_rtree && (int_le rect.x1 rect.x2 && int_le rect.y1 rect.y2)
+fits schema (op.Prefix class index text way) kind = has_index schema class index is_patricia && nat_le (length text) MAX_TEXT
 fits schema (op.Count class) kind = has_class schema class
 
 -- that an operation fits
 abbrev pub Fits : Schema → Op → Kind → Type 0
 Fits schema op kind = IsTrue (fits schema op kind)
-
--- that no class has more than eight indexes, as the rules of schemas have it
-abbrev pub HasFewIndexes : Schema → Type 0
-HasFewIndexes schema = (class : ℕ) → length (indexes_of schema class) ≤ 8
 
 -- that each of the operations fits
 abbrev pub AllFit : Schema → Kind → List (Op × Reply) → Type 0

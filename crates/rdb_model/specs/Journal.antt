@@ -1,7 +1,8 @@
 -- The journal: the database that its commits make, and the law that it keeps.
-use Rattle.std.specs.Prelude.{◌≡◌, ℕ, ◌+◌, Bool, true, false, ◌&&◌, ◌||◌, not, ◌==◌, nat_le, List, [], ◌∷◌, ◌++◌, length, take, Option, Some, None, if◌then◌else◌}
+use Rattle.std.specs.Prelude.{◌≡◌, ℕ, ◌+◌, Bool, false, ◌&&◌, ◌||◌, not, ◌==◌, nat_le, List, [], ◌∷◌, ◌++◌, length, take, Option, Some, None, if◌then◌else◌}
 use Rattle.std.specs.List.{filter, filter_map, list_any}
 use Rattle.std.specs.Option.{option_map, option_map_or}
+use Rattle.rdb_base.specs.Entries.{is_commit, story_of}
 use Rattle.rdb_base.specs.declared.operation.Op.{Op}
 use Rattle.rdb_base.specs.declared.operation.Op.TheVariants as op
 use Rattle.rdb_base.specs.declared.operation.Reply.{Reply}
@@ -14,14 +15,11 @@ use Rattle.rdb_model.specs.declared.legality.Legality.{Legality}
 use Rattle.rdb_model.specs.declared.legality.Legality.TheVariants as legality
 use Rattle.rdb_model.specs.declared.legality.Why.{Why}
 use Rattle.rdb_model.specs.declared.legality.Why.TheVariants as why
+use Rattle.rdb_model.specs.declared.legality.Span.{Span}
+use Rattle.rdb_model.specs.declared.legality.Span.TheVariants as span
 use Rattle.rdb_model.specs.Database.{Database, empty}
 use Rattle.rdb_model.specs.Answer.{answer}
 use Rattle.rdb_model.specs.Story.{same_reply, after}
-
--- whether an entry is a commit
-abbrev pub is_commit : Entry → Bool
-is_commit (entry.Commit story commit) = true
-is_commit _ = false
 
 -- how many commits there are
 abbrev pub commits : List Entry → ℕ
@@ -48,10 +46,7 @@ fold schema journal n = after_all schema (empty (length schema.classes)) (take n
 
 -- the client and the number of the transaction that an entry ends
 abbrev pub ended : Entry → Option (ℕ × ℕ)
-ended (entry.Commit story commit) = Some (story.client, story.number)
-ended (entry.Read story) = Some (story.client, story.number)
-ended (entry.Abort story cause) = Some (story.client, story.number)
-ended _ = None
+ended e = option_map (λ s. (s.client, s.number)) (story_of e)
 
 -- the client that an entry takes leave of
 abbrev pub left_client : Entry → Option ℕ
@@ -59,13 +54,36 @@ left_client (entry.Handled client by at finished) = Some client
 left_client (entry.Closed client) = Some client
 left_client _ = None
 
+-- whether an entry ends that transaction
+abbrev pub ends : ℕ × ℕ → Entry → Bool
+ends tx e = option_map_or (λ t. (t.0 == tx.0) && (t.1 == tx.1)) (ended e) false
+
+-- whether an entry takes leave of that client
+abbrev pub takes_leave : ℕ → Entry → Bool
+takes_leave client e = option_map_or (λ c. c == client) (left_client e) false
+
 -- whether an earlier entry ended that transaction
 abbrev pub has_ended : List Entry → ℕ × ℕ → Bool
-has_ended earlier tx = list_any (λ e. option_map_or (λ t. (t.0 == tx.0) && (t.1 == tx.1)) (ended e) false) earlier
+has_ended earlier tx = list_any (ends tx) earlier
 
 -- whether an earlier entry took leave of that client
 abbrev pub has_left : List Entry → ℕ → Bool
-has_left earlier client = list_any (λ e. option_map_or (λ c. c == client) (left_client e) false) earlier
+has_left earlier client = list_any (takes_leave client) earlier
+
+-- whether one of the earlier entries ended that transaction, and none after it took leave of its client
+abbrev pub has_ended_since_leave : List Entry → ℕ × ℕ → Bool
+has_ended_since_leave [] tx = false
+has_ended_since_leave (e ∷ es) tx = (ends tx e && not (has_left es tx.0)) || has_ended_since_leave es tx
+
+-- whether an earlier entry of the journal, or of the client's stretch, ended that transaction
+abbrev pub has_ended_within : Span → List Entry → ℕ × ℕ → Bool
+has_ended_within span.Journal earlier tx = has_ended earlier tx
+has_ended_within span.Stretch earlier tx = has_ended_since_leave earlier tx
+
+-- whether an earlier entry of the journal, or of the client's stretch, took leave of that client: a stretch ends as leave is taken
+abbrev pub has_left_within : Span → List Entry → ℕ → Bool
+has_left_within span.Journal earlier client = has_left earlier client
+has_left_within span.Stretch earlier client = false
 
 -- number: whether an entry is a commit whose number isn't one more than the commits before it
 abbrev pub breaks_number : List Entry → Entry → Bool
@@ -73,20 +91,20 @@ breaks_number earlier (entry.Commit story commit) = not (commit == (commits earl
 breaks_number earlier _ = false
 
 -- twice: whether an entry ends a transaction that has ended, or takes leave of a client that has left
-abbrev pub breaks_twice : List Entry → Entry → Bool
-breaks_twice earlier e = option_map_or (has_ended earlier) (ended e) false || option_map_or (has_left earlier) (left_client e) false
+abbrev pub breaks_twice : Span → List Entry → Entry → Bool
+breaks_twice within earlier e =
+    option_map_or (has_ended_within within earlier) (ended e) false || option_map_or (has_left_within within earlier) (left_client e) false
 
--- whether a transaction began at one of the places before its end, and sees at least the commits before that place and at most those before its end
+-- whether a transaction began at one of the places before its end, and sees at least the commits before that place and at most those
+-- before its end
 abbrev pub is_placed : List Entry → Story → Bool
 is_placed earlier story =
-    nat_le story.begun (length earlier) && (nat_le (commits (take story.begun earlier)) story.snapshot && nat_le story.snapshot (commits earlier))
+    nat_le story.begun (length earlier)
+    && (nat_le (commits (take story.begun earlier)) story.snapshot && nat_le story.snapshot (commits earlier))
 
 -- place: whether the entry's transaction isn't placed so
 abbrev pub breaks_place : List Entry → Entry → Bool
-breaks_place earlier (entry.Commit story commit) = not (is_placed earlier story)
-breaks_place earlier (entry.Read story) = not (is_placed earlier story)
-breaks_place earlier (entry.Abort story cause) = not (is_placed earlier story)
-breaks_place earlier _ = false
+breaks_place earlier e = option_map_or (λ s. not (is_placed earlier s)) (story_of e) false
 
 -- the class and the id of the object that an operation made, if it did
 abbrev pub made_by : Op × Reply → Option (ℕ × ℕ)
@@ -111,31 +129,39 @@ abbrev pub wrong_reply : Schema → Database → List (ℕ × ℕ) → ℕ → L
 wrong_reply schema db made first [] = None
 wrong_reply schema db made first (d ∷ ds) =
     let told = answer schema db d.0 in
-    if same_reply told.0 d.1 && not (option_map_or (was_made made) (made_by d) false) then wrong_reply schema told.1 (made ++ made_in (d ∷ [])) (first + 1) ds
+    if same_reply told.0 d.1 && not (option_map_or (was_made made) (made_by d) false)
+    then wrong_reply schema told.1 (made ++ made_in (d ∷ [])) (first + 1) ds
     else Some first
 
--- reply: the first wrong operation of a commit, after all commits before it, or of a read, after those that it sees
+-- reply: the first wrong operation of a commit, after all commits before it, or of a read, after those that it sees; neither
+-- makes an object that a commit before it made
 abbrev pub breaks_reply : Schema → List Entry → Entry → Option ℕ
-breaks_reply schema earlier (entry.Commit story commit) = wrong_reply schema (fold schema earlier (commits earlier)) (made_before earlier) 1 story.done
-breaks_reply schema earlier (entry.Read story) = wrong_reply schema (fold schema earlier story.snapshot) [] 1 story.done
+breaks_reply schema earlier (entry.Commit story commit) =
+    wrong_reply schema (fold schema earlier (commits earlier)) (made_before earlier) 1 story.done
+breaks_reply schema earlier (entry.Read story) = wrong_reply schema (fold schema earlier story.snapshot) (made_before earlier) 1 story.done
 breaks_reply schema earlier _ = None
 
 -- the first part of the law that an entry breaks, after the earlier ones: number, twice, place, reply
-abbrev pub broken : Schema → List Entry → Entry → Option Why
-broken schema earlier e =
+abbrev pub broken : Span → Schema → List Entry → Entry → Option Why
+broken within schema earlier e =
     if breaks_number earlier e then Some why.Number
-    else (if breaks_twice earlier e then Some why.Twice
+    else (if breaks_twice within earlier e then Some why.Twice
     else (if breaks_place earlier e then Some why.Place
     else option_map why.Reply (breaks_reply schema earlier e)))
 
 -- the first entry that breaks the law, numbered from 1, of those that come after the earlier ones
-abbrev pub judged : Schema → List Entry → List Entry → Legality
-judged schema earlier [] = legality.Legal
-judged schema earlier (e ∷ es) = option_map_or (legality.Illegal (length earlier + 1)) (broken schema earlier e) (judged schema (earlier ++ e ∷ []) es)
+abbrev pub judged : Span → Schema → List Entry → List Entry → Legality
+judged within schema earlier [] = legality.Legal
+judged within schema earlier (e ∷ es) =
+    option_map_or (legality.Illegal (length earlier + 1)) (broken within schema earlier e) (judged within schema (earlier ++ e ∷ []) es)
 
 -- whether a journal keeps the law, or where it first breaks it, and how
 abbrev pub legal : Schema → List Entry → Legality
-legal schema journal = judged schema [] journal
+legal schema journal = judged span.Journal schema [] journal
+
+-- the same, where a slot may be given again once leave was taken of its client
+abbrev pub legal_in_stretches : Schema → List Entry → Legality
+legal_in_stretches schema journal = judged span.Stretch schema [] journal
 
 -- that a journal keeps the law
 abbrev pub IsLegal : Schema → List Entry → Type 0

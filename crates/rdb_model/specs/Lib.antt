@@ -4,6 +4,7 @@ pub mod Place
 pub mod Answer
 pub mod Story
 pub mod Journal
+pub mod Parts
 pub mod Touch
 pub mod Serial
 pub mod Fits

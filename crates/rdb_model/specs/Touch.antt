@@ -3,6 +3,7 @@ use Rattle.std.specs.Prelude.{slice_get, ℕ, ◌-◌, Bool, true, false, ◌&&�
 use Rattle.std.specs.List.{filter_map, list_any}
 use Rattle.std.specs.Option.{option_map_or}
 use Rattle.std.specs.Ordering.{is_lt, is_gt}
+use Rattle.rdb_base.specs.Operations.{class_of}
 use Rattle.rdb_base.specs.declared.operation.Op.{Op}
 use Rattle.rdb_base.specs.declared.operation.Op.TheVariants as op
 use Rattle.rdb_base.specs.declared.operation.How.{How}
@@ -36,17 +37,14 @@ relates how.Exact text words = starts text words && starts words text
 relates how.Longest text words = starts text words
 relates how.Starting text words = starts words text
 
--- the class that an operation is of
-abbrev pub class_of : Op → ℕ
-class_of (op.New class row id) = class
-class_of (op.Get class id) = class
-class_of (op.Put class id row) = class
-class_of (op.Del class id) = class
-class_of (op.Find class at wanted) = class
-class_of (op.Seek class at from up) = class
-class_of (op.Area class at rect inside) = class
-class_of (op.Prefix class at text way) = class
-class_of (op.Count class) = class
+-- whether a lookup in an index with these fields looks at an object
+abbrev pub is_looked_at : List ℕ → Op → Reply → ℕ → Row → Bool
+is_looked_at fields (op.Find class at wanted) told id other = has_key fields wanted other
+is_looked_at fields (op.Seek class at from up) told id other =
+    is_beyond from up (pair_of fields (id, other)) && is_within up told (pair_of fields (id, other))
+is_looked_at fields (op.Area class at rect inside) told id other = meets rect inside (key fields other)
+is_looked_at fields (op.Prefix class at text way) told id other = option_map_or (relates way text) (words_of (key fields other)) false
+is_looked_at fields _ told id other = false
 
 -- whether the reply to an operation rests on an object of its class
 abbrev pub rests : Schema → Op → Reply → ℕ → Row → Bool
@@ -54,11 +52,12 @@ rests schema (op.New class row made) told id other = shares_key (indexes_of sche
 rests schema (op.Get class wanted) told id other = id == wanted
 rests schema (op.Put class wanted row) told id other = (id == wanted) || shares_key (indexes_of schema class) row other
 rests schema (op.Del class wanted) told id other = id == wanted
-rests schema (op.Find class at wanted) told id other = has_key (fields_of schema class at) wanted other
-rests schema (op.Seek class at from up) told id other =
-    is_beyond from up (pair_of (fields_of schema class at) (id, other)) && is_within up told (pair_of (fields_of schema class at) (id, other))
-rests schema (op.Area class at rect inside) told id other = meets rect inside (key (fields_of schema class at) other)
-rests schema (op.Prefix class at text way) told id other = option_map_or (relates way text) (words_of (key (fields_of schema class at) other)) false
+rests schema (op.Find class at wanted) told id other = is_looked_at (fields_of schema class at) (op.Find class at wanted) told id other
+rests schema (op.Seek class at from up) told id other = is_looked_at (fields_of schema class at) (op.Seek class at from up) told id other
+rests schema (op.Area class at rect inside) told id other =
+    is_looked_at (fields_of schema class at) (op.Area class at rect inside) told id other
+rests schema (op.Prefix class at text way) told id other =
+    is_looked_at (fields_of schema class at) (op.Prefix class at text way) told id other
 rests schema (op.Count class) told id other = true
 
 -- the class and the id of the object that an operation wrote, if it did
@@ -75,7 +74,8 @@ rests_on schema db d object =
 
 -- whether the reply to an operation rests on an object that operations wrote, as it was before them or as it is after
 abbrev pub any_rests : Schema → Database → Database → Op × Reply → List (Op × Reply) → Bool
-any_rests schema before next d done = list_any (λ object. rests_on schema before d object || rests_on schema next d object) (filter_map written_by done)
+any_rests schema before next d done =
+    list_any (λ object. rests_on schema before d object || rests_on schema next d object) (filter_map written_by done)
 
 -- whether operations that are done on a database touch another operation
 abbrev pub touches : Schema → Database → List (Op × Reply) → Op × Reply → Bool
@@ -83,4 +83,5 @@ touches schema before done d = any_rests schema before (after schema before done
 
 -- whether a commit on a database touches the operation of that number, from 1, of a story
 abbrev pub touched : Schema → Database → Entry → Story → ℕ → Bool
-touched schema before commit story operation = option_map_or (touches schema before (done_of commit)) (slice_get story.done (operation - 1)) false
+touched schema before commit story operation =
+    option_map_or (touches schema before (done_of commit)) (slice_get story.done (operation - 1)) false

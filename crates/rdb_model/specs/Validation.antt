@@ -8,9 +8,10 @@ use Rattle.rdb_base.specs.declared.journal.Story.{Story}
 use Rattle.rdb_base.specs.declared.journal.Entry.{Entry}
 use Rattle.rdb_base.specs.declared.journal.Entry.TheVariants as entry
 use Rattle.rdb_schema.specs.declared.schema.Schema.{Schema}
+use Rattle.rdb_model.specs.declared.legality.Span.{Span}
 use Rattle.rdb_model.specs.Database.{Database}
 use Rattle.rdb_model.specs.Story.{run}
-use Rattle.rdb_model.specs.Journal.{fold, has_ended, is_placed, made_by, made_in, made_before, was_made}
+use Rattle.rdb_model.specs.Journal.{fold, has_ended_within, is_placed, made_by, made_in, made_before, was_made}
 use Rattle.rdb_model.specs.Touch.{touched, written_by}
 
 -- whether operations wrote an object
@@ -25,7 +26,8 @@ pub record LeavesAlone (schema : Schema) (before : Database) (own : Story) (comm
 -- that each commit of a journal after one and up to another leaves a story alone
 abbrev pub AreLeftAlone : Schema → List Entry → ℕ → ℕ → Story → Type 0
 AreLeftAlone schema journal from to story =
-    (own : Story) (commit : ℕ) → Contains journal (entry.Commit own commit) → from < commit → commit ≤ to → LeavesAlone schema (fold schema journal (commit - 1)) own commit story
+    (own : Story) (commit : ℕ) → Contains journal (entry.Commit own commit) → from < commit → commit ≤ to
+    → LeavesAlone schema (fold schema journal (commit - 1)) own commit story
 
 -- that a story runs on the database after so many commits
 abbrev pub RunsAfter : Schema → List Entry → ℕ → Story → Type 0
@@ -36,10 +38,13 @@ abbrev pub MakesAnew : List (ℕ × ℕ) → List (Op × Reply) → Type 0
 MakesAnew made [] = Unit {0}
 MakesAnew made (d ∷ ds) = (option_map_or (was_made made) (made_by d) false ≡ false) × MakesAnew (made ++ made_in (d ∷ [])) ds
 
--- that validation lets a story commit: its transaction hasn't ended, it began and sees what it may, it makes each object anew,
--- it runs on the database that it sees, and no commit that it doesn't see touches it
+-- that a story's transaction hasn't ended within the span
+abbrev pub IsNew : Span → List Entry → Story → Type 0
+IsNew within journal story = has_ended_within within journal (story.client, story.number) ≡ false
+
+-- that validation lets a story commit: its transaction began and sees what it may, it makes each object anew, it runs on the
+-- database that it sees, and no commit that it doesn't see touches it
 pub record IsValid (schema : Schema) (journal : List Entry) (story : Story) : Type 0 where
-  pub not_ended : has_ended journal (story.client, story.number) ≡ false
   pub placed : is_placed journal story ≡ true
   pub makes_anew : MakesAnew (made_before journal) story.done
   pub runs : RunsAfter schema journal story.snapshot story

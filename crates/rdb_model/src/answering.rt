@@ -3,7 +3,8 @@
 ghost use Rattle.std.specs.Prelude.{◌≡◌, ℕ, ◌<◌, ◌^◌, ◌&&◌, not, false, [], ◌∷◌, ◌++◌, List, length, IfOk, OnOk, if◌then◌else◌};
 ghost use Rattle.std.specs.Option.{option_map_or, option_or};
 ghost use Rattle.rdb_base.specs.declared.identity.Kind.{Kind};
-ghost use Rattle.rdb_model.specs.Fits.{AllFit, HasFewIndexes};
+ghost use Rattle.rdb_schema.specs.Schemas.{IsSchema};
+ghost use Rattle.rdb_model.specs.Fits.{AllFit};
 ghost use Rattle.rdb_model.specs.Story.{same_reply, after};
 ghost use Rattle.rdb_model.specs.Journal.{wrong_reply, was_made, made_by, made_in};
 ghost use Rattle.rdb_model.specs.Tallies.{HasMade};
@@ -27,8 +28,9 @@ pub(crate) fn wrong_in_commit(
     requires fits { AllFit schema.now Kind.ReadWrite done.now }
     requires few { length done.now < 2 ^ 32 }
     requires classes { length db.old ≡ length schema.now.classes }
-    requires few_indexes { HasFewIndexes schema.now }
-    ensures wrong { (objects : List (ℕ × ℕ)) → HasMade objects made.old → IfOk result (λ wrong. wrong ≡ wrong_reply schema.now db.old objects 1 done.now) }
+    requires is_schema { IsSchema schema.now }
+    ensures wrong { (objects : List (ℕ × ℕ)) → HasMade objects made.old →
+        IfOk result (λ wrong. wrong ≡ wrong_reply schema.now db.old objects 1 done.now) }
     ensures next { OnOk result (db.new ≡ after schema.now db.old done.now) }
     ensures made { (objects : List (ℕ × ℕ)) → HasMade objects made.old → OnOk result (HasMade (objects ++ made_in done.now) made.new) }
     ensures classes { length db.new ≡ length db.old }
@@ -54,8 +56,8 @@ fn first_wrong(wrong: Option<u32>, same: bool, again: bool, number: u32) -> Opti
     }
 }
 
-/// Does the operations of a read on the database that it sees, which they leave as it is. The first of them, numbered from 1, whose reply is
-/// wrong.
+/// Does the operations of a read on the database that it sees, which they leave as it is. The first of them, numbered from 1, whose reply
+/// is wrong.
 pub(crate) fn wrong_in_read(
     schema: &Schema,
     db: &mut Db,
@@ -64,7 +66,7 @@ pub(crate) fn wrong_in_read(
     requires fits { AllFit schema.now Kind.ReadOnly done.now }
     requires few { length done.now < 2 ^ 32 }
     requires classes { length db.old ≡ length schema.now.classes }
-    requires few_indexes { HasFewIndexes schema.now }
+    requires is_schema { IsSchema schema.now }
     ensures wrong { IfOk result (λ wrong. wrong ≡ wrong_reply schema.now db.old [] 1 done.now) }
     ensures same { OnOk result (db.new ≡ db.old) }
 {
@@ -80,8 +82,10 @@ pub(crate) fn wrong_in_read(
 
 // Whether an operation made an object that was made before; it is then among those made.
 fn makes_again(made: &mut BTreeSet<(u32, u64)>, op: &Op, told: &Reply) -> Result<bool, NoMemory>
-    ensures again { (objects : List (ℕ × ℕ)) → HasMade objects made.old → IfOk result (λ again. again ≡ option_map_or (was_made objects) (made_by (op.now, told.now)) false) }
-    ensures made { (objects : List (ℕ × ℕ)) → HasMade objects made.old → OnOk result (HasMade (objects ++ made_in ((op.now, told.now) ∷ [])) made.new) }
+    ensures again { (objects : List (ℕ × ℕ)) → HasMade objects made.old →
+        IfOk result (λ again. again ≡ option_map_or (was_made objects) (made_by (op.now, told.now)) false) }
+    ensures made { (objects : List (ℕ × ℕ)) → HasMade objects made.old →
+        OnOk result (HasMade (objects ++ made_in ((op.now, told.now) ∷ [])) made.new) }
 {
     match made_by(op, told) {
         Some(object) => {
@@ -97,14 +101,7 @@ fn made_by(op: &Op, told: &Reply) -> Option<(u32, u64)>
     ensures { result ≡ made_by (op.now, told.now) }
 {
     match (op, told) {
-        (
-            Op::New {
-                class,
-                row: _,
-                id: _,
-            },
-            Reply::Made(id),
-        ) => Some((*class, *id)),
+        (Op::New { class, .. }, Reply::Made(id)) => Some((*class, *id)),
         _ => None,
     }
 }

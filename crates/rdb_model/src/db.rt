@@ -6,10 +6,11 @@ ghost use Rattle.rdb_base.specs.declared.operation.Op.TheVariants as op;
 ghost use Rattle.rdb_base.specs.declared.identity.Kind.{Kind};
 ghost use Rattle.std.specs.List.{All};
 ghost use Rattle.std.specs.Option.{option_map, option_copied};
-ghost use Rattle.rdb_model.specs.Database.{empty, objects_of, row_of};
+ghost use Rattle.rdb_model.specs.Database.{empty, objects_of, row_of, IsInOrder};
 ghost use Rattle.rdb_model.specs.Story.{after, IsAfterSome};
 ghost use Rattle.rdb_model.specs.Answer.{answer};
-ghost use Rattle.rdb_model.specs.Fits.{Fits, HasFewIndexes};
+ghost use Rattle.rdb_schema.specs.Schemas.{IsSchema};
+ghost use Rattle.rdb_model.specs.Fits.{Fits};
 ghost use Rattle.rdb_schema.specs.Indexes.{indexes_of};
 
 use crate::clash::find_clash;
@@ -27,18 +28,21 @@ use rdb_schema::schema::Schema;
 use std::alloc::Global;
 use std::marker::Model;
 
-/// A database without indexes, pages or versions. Contracts see, for each class, the pairs of an id and its row in ascending id.
+/// A database without indexes, pages or versions. Contracts see, for each class, the pairs of an id and its row; in each class the ids
+/// ascend, each once, as `is_in_order` says.
 #[derive(Debug, Drop)]
 pub struct Db {
     classes: Vec<Objects>,
 }
 
 impl Model for Db {
-    ghost use Rattle.rdb_model.specs.Database.{Database};
+    ghost use Rattle.rdb_model.specs.Database.{Database, IsInOrder};
 
     ghost Value = { Database };
 
     ghost view = { λ db. db.classes.items };
+
+    ghost invariant = { λ db. IsInOrder db.classes.items };
 }
 
 impl Db {
@@ -58,6 +62,13 @@ impl Db {
         ensures { result ≡ length self.now }
     {
         self.classes.len()
+    }
+
+    /// Does nothing: in each class the ids ascend, each once.
+    pub fn is_in_order(&self)
+        ensures { IsInOrder self.now }
+    {
+        let _ = &self.classes;
     }
 
     /// An equal database. The cost grows with all that its rows hold.
@@ -88,12 +99,12 @@ impl Db {
         self.classes[class as usize].row(id)
     }
 
-    /// Does operations one after another, whatever they are told; the replies are dropped. Where memory is wanting the first few of them are
-    /// done, and no other. The cost is that of each of the operations.
+    /// Does operations one after another, whatever they are told; the replies are dropped. Where memory is wanting the first few of them
+    /// are done, and no other. The cost is that of each of the operations.
     pub fn apply_all(&mut self, schema: &Schema, done: &Done) -> Result<(), NoMemory>
         requires fits { All (λ d. Fits schema.now d.0 Kind.ReadWrite) done.now }
         requires classes { length self.old ≡ length schema.now.classes }
-        requires few_indexes { HasFewIndexes schema.now }
+        requires is_schema { IsSchema schema.now }
         ensures next { OnOk result (self.new ≡ after schema.now self.old done.now) }
         ensures err { OnErr result (IsAfterSome schema.now self.old done.now self.new) }
         ensures classes { length self.new ≡ length self.old }
@@ -108,15 +119,14 @@ impl Db {
     fn make(&mut self, schema: &Schema, class: u32, row: &Row, id: u64) -> Result<Reply, NoMemory>
         requires class { class < length self.old }
         requires declared { class < length schema.now.classes }
-        requires few_indexes { HasFewIndexes schema.now }
+        requires is_schema { IsSchema schema.now }
         ensures reply { IfOk result (λ reply. reply ≡ (answer schema.now self.old (op.New class row.now id)).0) }
         ensures next { OnOk result (self.new ≡ (answer schema.now self.old (op.New class row.now id)).1) }
         ensures err { OnErr result (self.new ≡ self.old) }
     {
-        let alloc = *self.classes.allocator();
         let objects = &mut self.classes[class as usize];
         let indexes = class_indexes(schema, class);
-        match find_clash(alloc, indexes, row, objects.as_slice(), None)? {
+        match find_clash(indexes, row, objects.as_slice(), None) {
             Some((index, id)) => Ok(Reply::Duplicate { index, id }),
             None => {
                 objects.put(id, row.copy()?)?;
@@ -135,18 +145,17 @@ impl Db {
     ) -> Result<Reply, NoMemory>
         requires class { class < length self.old }
         requires declared { class < length schema.now.classes }
-        requires few_indexes { HasFewIndexes schema.now }
+        requires is_schema { IsSchema schema.now }
         ensures reply { IfOk result (λ reply. reply ≡ (answer schema.now self.old (op.Put class id row.now)).0) }
         ensures next { OnOk result (self.new ≡ (answer schema.now self.old (op.Put class id row.now)).1) }
         ensures err { OnErr result (self.new ≡ self.old) }
     {
-        let alloc = *self.classes.allocator();
         let objects = &mut self.classes[class as usize];
         if objects.row(id).is_none() {
             return Ok(Reply::NotFound);
         }
         let indexes = class_indexes(schema, class);
-        match find_clash(alloc, indexes, row, objects.as_slice(), Some(id))? {
+        match find_clash(indexes, row, objects.as_slice(), Some(id)) {
             Some((index, id)) => Ok(Reply::Duplicate { index, id }),
             None => {
                 objects.put(id, row.copy()?)?;
@@ -272,7 +281,7 @@ impl Db {
     pub fn apply(&mut self, schema: &Schema, op: &Op) -> Result<Reply, NoMemory>
         requires fits { Fits schema.now op.now Kind.ReadWrite }
         requires classes { length self.old ≡ length schema.now.classes }
-        requires few_indexes { HasFewIndexes schema.now }
+        requires is_schema { IsSchema schema.now }
         ensures reply { IfOk result (λ reply. reply ≡ (answer schema.now self.old op.now).0) }
         ensures next { OnOk result (self.new ≡ (answer schema.now self.old op.now).1) }
         ensures err { OnErr result (self.new ≡ self.old) }

@@ -1,14 +1,14 @@
 //! Schemas, rows, operations and entries that the tests of this crate share. They take memory of their own.
 
 use crate::db::Db;
-use crate::fitting::has_few_indexes;
 use crate::legality::each_fits;
 use rdb_base::identity::Kind;
-use rdb_base::journal::{Cause, Done, Entry, Journal, Story};
+use rdb_base::journal::{Cause, Done, Entries, Entry, Story};
 use rdb_base::list::{List, NoMemory};
 use rdb_base::operation::{How, Op, Place, Reply};
 use rdb_base::text::Text;
 use rdb_base::value::{Leaf, Rect, Row, Value};
+use rdb_schema::is_schema;
 use rdb_schema::schema::{Class, Field, FieldType, IndexDecl, IndexKind, Schema};
 use std::alloc::Global;
 use std::test::Fail;
@@ -54,8 +54,8 @@ pub(crate) fn ids(alloc: Global, found: &[u64]) -> Result<Reply, NoMemory> {
     Ok(Reply::Ids(List::from_slice(alloc, found)?))
 }
 
-fn field(alloc: Global, ty: FieldType) -> Result<Field, NoMemory> {
-    let name = Text::of(alloc, "f")?;
+fn field(alloc: Global, name: &str, ty: FieldType) -> Result<Field, NoMemory> {
+    let name = Text::of(alloc, name)?;
     Ok(Field { name, ty })
 }
 
@@ -71,8 +71,9 @@ fn declared(alloc: Global, index: &Index) -> Result<IndexDecl, NoMemory> {
 
 fn class(alloc: Global, types: &[FieldType], indexes: &[Index]) -> Result<Class, NoMemory> {
     let mut fields = List::new(alloc);
-    for ty in types {
-        fields.push(field(alloc, *ty)?)?;
+    for (place, ty) in types.iter().enumerate() {
+        let name = if place == 0 { "first" } else { "second" };
+        fields.push(field(alloc, name, *ty)?)?;
     }
     let mut declarations = List::new(alloc);
     for index in indexes {
@@ -284,7 +285,7 @@ pub(crate) fn raced(
     change: Done,
     other: Done,
     is_lost: bool,
-) -> Result<Journal, NoMemory> {
+) -> Result<Entries, NoMemory> {
     let mut journal = List::new(alloc);
     journal.push(made(alloc, (1, 1, 0, 0), 1, objects)?)?;
     journal.push(commit((1, 2, 1, 1), 2, change))?;
@@ -299,21 +300,21 @@ pub(crate) fn raced(
 }
 
 /// Both read and write one object.
-pub(crate) fn first_conflict(alloc: Global) -> Result<Journal, NoMemory> {
+pub(crate) fn first_conflict(alloc: Global) -> Result<Entries, NoMemory> {
     let change = got_and_put(alloc, 1, 5, 1, 6)?;
     let other = got_and_put(alloc, 1, 5, 1, 7)?;
     raced(alloc, &[(5, 1)], change, other, true)
 }
 
 /// Each reads one of two objects and writes the other.
-pub(crate) fn write_skew(alloc: Global, is_lost: bool) -> Result<Journal, NoMemory> {
+pub(crate) fn write_skew(alloc: Global, is_lost: bool) -> Result<Entries, NoMemory> {
     let change = got_and_put(alloc, 1, 0, 2, 1)?;
     let other = got_and_put(alloc, 2, 0, 1, 1)?;
     raced(alloc, &[(0, 1), (0, 2)], change, other, is_lost)
 }
 
 /// One makes a number, the other looked beyond 20 before.
-pub(crate) fn phantom(alloc: Global, n: i128, is_lost: bool) -> Result<Journal, NoMemory> {
+pub(crate) fn phantom(alloc: Global, n: i128, is_lost: bool) -> Result<Entries, NoMemory> {
     let mut change = List::new(alloc);
     new(&mut change, number(alloc, n)?, 2)?;
     let other = looked_and_made(alloc)?;
@@ -322,13 +323,13 @@ pub(crate) fn phantom(alloc: Global, n: i128, is_lost: bool) -> Result<Journal, 
 
 /// Does the operations of a commit.
 pub(crate) fn redo(db: &mut Db, schema: &Schema, entry: &Entry) -> Result<(), Fail> {
-    let Entry::Commit { story, commit: _ } = entry else {
+    let Entry::Commit { story, .. } = entry else {
         return Err(Fail::new("it is no commit"));
     };
     if !each_fits(schema, Kind::ReadWrite, &story.done) {
         return Err(Fail::new("it doesn't fit"));
     }
-    if !has_few_indexes(schema) || db.classes() != schema.classes.len() {
+    if !is_schema(schema) || db.classes() != schema.classes.len() {
         return Err(Fail::new("another schema"));
     }
     Ok(db.apply_all(schema, &story.done)?)

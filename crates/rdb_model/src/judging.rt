@@ -1,14 +1,15 @@
-//! The first wrong reply of a journal whose entries are well placed. It folds the commits once, and judges each read on the database that it
-//! sees. It touches the memory that it takes alone.
+//! The first wrong reply of a journal whose entries are well placed. It folds the commits once, and judges each read on the database that
+//! it sees. It touches the memory that it takes alone.
 
 ghost use Rattle.std.specs.Prelude.{◌≡◌, [], ◌∷◌, ◌++◌, List as Listed, length, slice_get, None, IfOk, OnOk};
 ghost use Rattle.std.specs.List.{All};
 ghost use Rattle.std.specs.Option.{option_map, option_map_or};
 ghost use Rattle.rdb_base.specs.declared.journal.Entry.{Entry};
-ghost use Rattle.rdb_model.specs.Fits.{HasFewIndexes};
+ghost use Rattle.rdb_schema.specs.Schemas.{IsSchema};
 ghost use Rattle.rdb_model.specs.Database.{empty};
 ghost use Rattle.rdb_model.specs.Journal.{breaks_reply, committed};
-ghost use Rattle.rdb_model.specs.FirstFault.{FitsEntry, first_at, misplaced, earlier_of, earliest_read, wrong_read};
+ghost use Rattle.rdb_model.specs.Parts.{IsWellPlaced};
+ghost use Rattle.rdb_model.specs.FirstFault.{FitsEntry, first_at, earlier_of, earliest_read, wrong_read};
 ghost use Rattle.rdb_model.specs.Tallies.{AreReaders};
 
 use crate::answering::{wrong_in_commit, wrong_in_read};
@@ -19,16 +20,16 @@ use rdb_schema::schema::Schema;
 use std::alloc::{AllocError, Global};
 use std::collections::BTreeSet;
 
-/// The first entry with a wrong reply: its place, from 0, and the number of the operation, from 1. The cost grows with the number of entries and
-/// what their operations cost on the plain database.
+/// The first entry with a wrong reply: its place, from 0, and the number of the operation, from 1. The cost grows with the number of entries
+/// and what their operations cost on the plain database.
 pub(crate) fn first_wrong(
     alloc: Global,
     schema: &Schema,
     entries: &[Entry],
 ) -> Result<Option<(usize, u32)>, NoMemory>
     requires fits { All (FitsEntry schema.now) entries.now }
-    requires few_indexes { HasFewIndexes schema.now }
-    requires placed { first_at misplaced [] entries.now ≡ None }
+    requires is_schema { IsSchema schema.now }
+    requires placed { IsWellPlaced entries.now }
     ensures { IfOk result (λ found. found ≡ first_at (breaks_reply schema.now) [] entries.now) }
 {
     let readers = readers_by_snapshot(alloc, entries)?;
@@ -62,7 +63,7 @@ fn committed(entry: &Entry) -> Option<&Done>
     ensures { option_map (λ done. done.now) result ≡ committed entry.now }
 {
     match entry {
-        Entry::Commit { story, commit: _ } => Some(&story.done),
+        Entry::Commit { story, .. } => Some(&story.done),
         _ => None,
     }
 }
@@ -86,13 +87,11 @@ fn add_reader(
     place: usize,
     entry: &Entry,
 ) -> Result<(), NoMemory>
-    ensures { (earlier : Listed Entry) → length earlier ≡ place → AreReaders earlier readers.old.items → OnOk result (AreReaders (earlier ++ entry.now ∷ []) readers.new.items) }
+    ensures { (earlier : Listed Entry) → length earlier ≡ place → AreReaders earlier readers.old.items →
+        OnOk result (AreReaders (earlier ++ entry.now ∷ []) readers.new.items) }
 {
     match entry {
-        Entry::Commit {
-            story: _,
-            commit: _,
-        } => Ok(readers.push(List::new(alloc))?),
+        Entry::Commit { .. } => Ok(readers.push(List::new(alloc))?),
         Entry::Read { story } => {
             let snapshot = story.snapshot as usize;
             if snapshot < readers.len() {
@@ -100,14 +99,9 @@ fn add_reader(
             }
             Ok(())
         }
-        Entry::Abort { story: _, cause: _ } => Ok(()),
-        Entry::Handled {
-            client: _,
-            by: _,
-            at: _,
-            finished: _,
-        } => Ok(()),
-        Entry::Closed { client: _ } => Ok(()),
+        Entry::Abort { .. } => Ok(()),
+        Entry::Handled { .. } => Ok(()),
+        Entry::Closed { .. } => Ok(()),
     }
 }
 
@@ -121,7 +115,7 @@ fn judge_reads(
 ) -> Result<Option<(usize, u32)>, NoMemory>
     requires fits { All (FitsEntry schema.now) entries.now }
     requires classes { length db.old ≡ length schema.now.classes }
-    requires few_indexes { HasFewIndexes schema.now }
+    requires is_schema { IsSchema schema.now }
     ensures earliest { IfOk result (λ best. best ≡ earliest_read schema.now db.old entries.now found places.now) }
     ensures same { OnOk result (db.new ≡ db.old) }
 {
@@ -142,7 +136,7 @@ fn judge_place(
 ) -> Result<Option<u32>, NoMemory>
     requires fits { All (FitsEntry schema.now) entries.now }
     requires classes { length db.old ≡ length schema.now.classes }
-    requires few_indexes { HasFewIndexes schema.now }
+    requires is_schema { IsSchema schema.now }
     ensures wrong { IfOk result (λ wrong. wrong ≡ option_map_or (wrong_read schema.now db.old) (slice_get entries.now place) None) }
     ensures same { OnOk result (db.new ≡ db.old) }
 {
@@ -156,7 +150,7 @@ fn judge_place(
 fn judge_entry(schema: &Schema, db: &mut Db, entry: &Entry) -> Result<Option<u32>, NoMemory>
     requires fits { FitsEntry schema.now entry.now }
     requires classes { length db.old ≡ length schema.now.classes }
-    requires few_indexes { HasFewIndexes schema.now }
+    requires is_schema { IsSchema schema.now }
     ensures wrong { IfOk result (λ wrong. wrong ≡ wrong_read schema.now db.old entry.now) }
     ensures same { OnOk result (db.new ≡ db.old) }
 {

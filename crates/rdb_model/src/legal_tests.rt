@@ -1,14 +1,14 @@
 //! What the worked journals and their faults say of the law of journals.
 
-use crate::fitting::has_few_indexes;
 use crate::fixtures::{
     Transaction, commit, first_conflict, get, got_and_put, items, lost, made, new, number,
     ordered_items, phantom, put, read, write_skew,
 };
-use crate::legality::{Legality, Why, journal_fits, legal};
-use rdb_base::journal::{Entry, Journal};
+use crate::legality::{Legality, Why, journal_fits, legal, legal_in_stretches};
+use rdb_base::journal::{Entries, Entry};
 use rdb_base::list::{List, NoMemory};
 use rdb_base::operation::{Op, Reply};
+use rdb_schema::is_schema;
 use rdb_schema::schema::Schema;
 use std::alloc::Global;
 use std::process::Abort;
@@ -19,13 +19,30 @@ fn expect(
     rt: &impl Abort,
     alloc: Global,
     schema: &Schema,
-    journal: &Journal,
+    journal: &Entries,
     expected: Legality,
 ) -> Result<(), Fail> {
-    if !has_few_indexes(schema) || !journal_fits(schema, journal) {
+    let entries = journal.as_slice();
+    if !is_schema(schema) || !journal_fits(schema, entries) {
         return Err(Fail::new("it doesn't fit"));
     }
-    assert_eq!(rt; legal(alloc, schema, journal)?, expected);
+    assert_eq!(rt; legal(alloc, schema, entries)?, expected);
+    Ok(())
+}
+
+// What is said of a journal whose operations fit, where a slot may be given again.
+fn expect_in_stretches(
+    rt: &impl Abort,
+    alloc: Global,
+    schema: &Schema,
+    journal: &Entries,
+    expected: Legality,
+) -> Result<(), Fail> {
+    let entries = journal.as_slice();
+    if !is_schema(schema) || !journal_fits(schema, entries) {
+        return Err(Fail::new("it doesn't fit"));
+    }
+    assert_eq!(rt; legal_in_stretches(alloc, schema, entries)?, expected);
     Ok(())
 }
 
@@ -61,7 +78,7 @@ fn changed(
     transaction: Transaction,
     number: u64,
     row: i128,
-) -> Result<Journal, NoMemory> {
+) -> Result<Entries, NoMemory> {
     let mut journal = List::new(alloc);
     journal.push(made(alloc, (1, 1, 0, 0), 1, &[(5, 1)])?)?;
     journal.push(commit(transaction, number, got_and_put(alloc, 1, row, 1, 6)?))?;
@@ -101,7 +118,7 @@ fn read_between(
     snapshot: u64,
     row: i128,
     last: u64,
-) -> Result<Journal, NoMemory> {
+) -> Result<Entries, NoMemory> {
     let mut journal = List::new(alloc);
     journal.push(made(alloc, (1, 1, 0, 0), 1, &[(5, 1)])?)?;
     let mut change = List::new(alloc);
@@ -155,7 +172,7 @@ fn the_first_of_several_faults_is_named(rt: HostRuntime) -> Result<(), Fail> {
 }
 
 // An object that is made, deleted, and made again.
-fn made_again(alloc: Global) -> Result<Journal, NoMemory> {
+fn made_again(alloc: Global) -> Result<Entries, NoMemory> {
     let mut journal = List::new(alloc);
     journal.push(made(alloc, (1, 1, 0, 0), 1, &[(5, 1)])?)?;
     let mut done = List::new(alloc);
@@ -166,14 +183,14 @@ fn made_again(alloc: Global) -> Result<Journal, NoMemory> {
 }
 
 // An object that is made twice in one commit.
-fn made_twice(alloc: Global) -> Result<Journal, NoMemory> {
+fn made_twice(alloc: Global) -> Result<Entries, NoMemory> {
     let mut journal = List::new(alloc);
     journal.push(made(alloc, (1, 1, 0, 0), 1, &[(5, 1), (6, 1)])?)?;
     Ok(journal)
 }
 
 // A client that is closed and handled.
-fn left_twice(alloc: Global) -> Result<Journal, NoMemory> {
+fn left_twice(alloc: Global) -> Result<Entries, NoMemory> {
     let mut journal = List::new(alloc);
     journal.push(Entry::Closed { client: 1 })?;
     journal.push(Entry::Handled {
@@ -199,4 +216,27 @@ fn nothing_is_made_or_left_twice(rt: HostRuntime) -> Result<(), Fail> {
         bad(3, FIRST_REPLY),
     )?;
     expect(&rt, alloc, &schema, &left_twice(alloc)?, bad(2, Why::Twice))
+}
+
+// A client makes an object; one of the same slot, the first having closed or not, ends a transaction of the same number.
+fn slot_given_again(alloc: Global, is_closed: bool) -> Result<Entries, NoMemory> {
+    let mut journal = List::new(alloc);
+    journal.push(made(alloc, (1, 1, 0, 0), 1, &[(5, 1)])?)?;
+    if is_closed {
+        journal.push(Entry::Closed { client: 1 })?;
+    }
+    journal.push(commit((1, 1, 1, 1), 2, got_and_put(alloc, 1, 5, 1, 6)?))?;
+    journal.push(Entry::Closed { client: 1 })?;
+    Ok(journal)
+}
+
+#[test]
+fn a_slot_may_be_given_again_once_its_client_left(rt: HostRuntime) -> Result<(), Fail> {
+    let alloc = rt.alloc();
+    let schema = items(alloc)?;
+    let again = slot_given_again(alloc, true)?;
+    expect_in_stretches(&rt, alloc, &schema, &again, Legality::Legal)?;
+    expect(&rt, alloc, &schema, &again, bad(3, Why::Twice))?;
+    let same = slot_given_again(alloc, false)?;
+    expect_in_stretches(&rt, alloc, &schema, &same, bad(2, Why::Twice))
 }

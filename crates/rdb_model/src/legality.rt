@@ -1,16 +1,17 @@
 //! Whether a journal keeps the law of journals. It reads the journal, and takes memory of its own.
 
-ghost use Rattle.std.specs.Prelude.{◌≡◌, ◌↔◌, ◌+◌, ◌<◌, ◌^◌, [], IfOk, IfSome, IsTrue};
+ghost use Rattle.std.specs.Prelude.{◌≡◌, ◌↔◌, ◌+◌, ◌<◌, ◌^◌, [], length, IfOk, IfSome, IsTrue};
 ghost use Rattle.std.specs.List.{All};
-ghost use Rattle.rdb_model.specs.Fits.{HasFewIndexes, AllFit};
-ghost use Rattle.rdb_model.specs.Journal.{legal};
-ghost use Rattle.rdb_model.specs.FirstFault.{FitsEntry, FitsStory, verdict, before, first_at, misplaced};
+ghost use Rattle.rdb_schema.specs.Schemas.{IsSchema};
+ghost use Rattle.rdb_model.specs.Fits.{AllFit};
+ghost use Rattle.rdb_model.specs.Journal.{legal, legal_in_stretches, judged};
+ghost use Rattle.rdb_model.specs.FirstFault.{FitsEntry, FitsStory, verdict, before};
 
 use crate::fitting::fits;
 use crate::judging::first_wrong;
 use crate::placing::first_misplaced;
 use rdb_base::identity::Kind;
-use rdb_base::journal::{Done, Entry, Journal, Story};
+use rdb_base::journal::{Done, Entry, Story};
 use rdb_base::list::NoMemory;
 use rdb_schema::schema::Schema;
 use std::alloc::Global;
@@ -28,6 +29,15 @@ pub enum Why {
     Reply { operation: u32 },
 }
 
+/// Within what a transaction ends at most once, and leave of a client is taken at most once.
+#[derive(Clone, Copy, Debug, PartialEq, Eq)]
+pub enum Span {
+    /// The whole journal: each slot is given once.
+    Journal,
+    /// Each stretch of a client's entries, which ends as leave of the client is taken: a slot may be given again.
+    Stretch,
+}
+
 /// Whether a journal keeps the law, or its first entry, from 1, that breaks it.
 #[derive(Clone, Copy, Debug, PartialEq, Eq)]
 pub enum Legality {
@@ -35,12 +45,12 @@ pub enum Legality {
     Illegal { entry: u64, why: Why },
 }
 
-/// Whether each operation of a journal fits: under reading alone in a read, under reading and writing in the other entries; and each story has
-/// fewer than 2^32 operations. It takes no memory. The cost grows with the operations.
-pub fn journal_fits(schema: &Schema, journal: &Journal) -> bool
-    ensures { IsTrue result ↔ All (FitsEntry schema.now) journal.now }
+/// Whether each operation of a journal fits: under reading alone in a read, under reading and writing in the other entries; and each story
+/// has fewer than 2^32 operations. It takes no memory. The cost grows with the operations.
+pub fn journal_fits(schema: &Schema, entries: &[Entry]) -> bool
+    ensures { IsTrue result ↔ All (FitsEntry schema.now) entries.now }
 {
-    for entry in journal.as_slice() {
+    for entry in entries {
         if !entry_fits(schema, entry) {
             return false;
         }
@@ -53,9 +63,9 @@ fn entry_fits(schema: &Schema, entry: &Entry) -> bool
     ensures { IsTrue result ↔ FitsEntry schema.now entry.now }
 {
     match entry {
-        Entry::Commit { story, commit: _ } => story_fits(schema, Kind::ReadWrite, story),
+        Entry::Commit { story, .. } => story_fits(schema, Kind::ReadWrite, story),
         Entry::Read { story } => story_fits(schema, Kind::ReadOnly, story),
-        Entry::Abort { story, cause: _ } => story_fits(schema, Kind::ReadWrite, story),
+        Entry::Abort { story, .. } => story_fits(schema, Kind::ReadWrite, story),
         _ => true,
     }
 }
@@ -85,20 +95,47 @@ pub(crate) fn each_fits(schema: &Schema, kind: Kind, done: &Done) -> bool
 ///
 /// The commits are folded once, whatever number of reads there is: with n entries the cost grows with n and its logarithm, and beyond
 /// that with what the operations cost on the plain database, each done once. The memory grows with n, and with the database.
-pub fn legal(alloc: Global, schema: &Schema, journal: &Journal) -> Result<Legality, NoMemory>
-    requires fits { All (FitsEntry schema.now) journal.now }
-    requires few_indexes { HasFewIndexes schema.now }
-    ensures { IfOk result (λ answer. answer ≡ legal schema.now journal.now) }
+pub fn legal(alloc: Global, schema: &Schema, entries: &[Entry]) -> Result<Legality, NoMemory>
+    requires fits { All (FitsEntry schema.now) entries.now }
+    requires is_schema { IsSchema schema.now }
+    ensures { IfOk result (λ answer. answer ≡ legal schema.now entries.now) }
 {
-    let entries = journal.as_slice();
-    let found = first_misplaced(alloc, entries)?;
+    judged(alloc, schema, entries, Span::Journal)
+}
+
+/// As `legal`, but for the second part, which is judged within each stretch of a client's entries that ends as its leave is taken: a slot
+/// may be given again. This is the law of the journal of a running region. The cost and the memory are those of `legal`.
+pub fn legal_in_stretches(
+    alloc: Global,
+    schema: &Schema,
+    entries: &[Entry],
+) -> Result<Legality, NoMemory>
+    requires fits { All (FitsEntry schema.now) entries.now }
+    requires is_schema { IsSchema schema.now }
+    ensures { IfOk result (λ answer. answer ≡ legal_in_stretches schema.now entries.now) }
+{
+    judged(alloc, schema, entries, Span::Stretch)
+}
+
+// What the law, with its second part within the span, says of a journal.
+fn judged(
+    alloc: Global,
+    schema: &Schema,
+    entries: &[Entry],
+    within: Span,
+) -> Result<Legality, NoMemory>
+    requires fits { All (FitsEntry schema.now) entries.now }
+    requires is_schema { IsSchema schema.now }
+    ensures { IfOk result (λ answer. answer ≡ judged within schema.now [] entries.now) }
+{
+    let found = first_misplaced(alloc, entries, within)?;
     let wrong = first_wrong(alloc, schema, before(entries, found))?;
     Ok(verdict(wrong, found))
 }
 
 // The entries before the first misplaced one.
 fn before(entries: &[Entry], found: Option<(usize, Why)>) -> &[Entry]
-    requires { found ≡ first_at misplaced [] entries.now }
+    requires { IfSome found (λ f. f.0 < length entries.now) }
     ensures { result.now ≡ before found entries.now }
 {
     match found {

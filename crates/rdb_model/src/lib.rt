@@ -5,6 +5,7 @@ mod answering;
 mod clash;
 pub mod db;
 mod declared;
+mod endings;
 pub mod fitting;
 #[cfg(test)]
 mod fixtures;

@@ -1,7 +1,7 @@
 //! What the worked cases say of each operation, of databases and their objects, and of what fits.
 
 use crate::db::Db;
-use crate::fitting::{fits, has_few_indexes};
+use crate::fitting::fits;
 use crate::fixtures::{
     area, commit, find, first_conflict, get, items, leaf, new, number, ordered_items, prefix, put,
     read, rect, redo, schema, seek, two, unique_items, word,
@@ -9,10 +9,11 @@ use crate::fixtures::{
 use crate::legality::{Legality, journal_fits, legal};
 use crate::objects::Objects;
 use rdb_base::identity::Kind;
-use rdb_base::journal::{Done, Entry, Journal};
+use rdb_base::journal::{Done, Entries, Entry};
 use rdb_base::list::{List, NoMemory};
 use rdb_base::operation::{How, Op, Place, Reply};
 use rdb_base::value::{Leaf, Rect, Row};
+use rdb_schema::is_schema;
 use rdb_schema::schema::{FieldType, IndexKind, Schema};
 use std::alloc::Global;
 use std::process::Abort;
@@ -23,7 +24,7 @@ fn told(db: &mut Db, schema: &Schema, op: &Op) -> Result<Reply, Fail> {
     if !fits(schema, op, Kind::ReadWrite) {
         return Err(Fail::new("it doesn't fit"));
     }
-    if !has_few_indexes(schema) || db.classes() != schema.classes.len() {
+    if !is_schema(schema) || db.classes() != schema.classes.len() {
         return Err(Fail::new("another schema"));
     }
     Ok(db.apply(schema, op)?)
@@ -42,12 +43,13 @@ fn expect_legal(
     rt: &impl Abort,
     alloc: Global,
     schema: &Schema,
-    journal: &Journal,
+    journal: &Entries,
 ) -> Result<(), Fail> {
-    if !has_few_indexes(schema) || !journal_fits(schema, journal) {
+    let entries = journal.as_slice();
+    if !is_schema(schema) || !journal_fits(schema, entries) {
         return Err(Fail::new("it doesn't fit"));
     }
-    assert_eq!(rt; legal(alloc, schema, journal)?, Legality::Legal);
+    assert_eq!(rt; legal(alloc, schema, entries)?, Legality::Legal);
     Ok(())
 }
 
@@ -171,7 +173,7 @@ fn seeks(alloc: Global) -> Result<Done, NoMemory> {
 }
 
 // Two objects, and then a thousand that are alike.
-fn thousand(alloc: Global) -> Result<Journal, NoMemory> {
+fn thousand(alloc: Global) -> Result<Entries, NoMemory> {
     let mut first = List::new(alloc);
     new(&mut first, two(alloc, 0, 5)?, 1)?;
     new(&mut first, two(alloc, MOST, 5)?, 2)?;

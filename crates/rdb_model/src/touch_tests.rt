@@ -1,7 +1,7 @@
 //! Which operations the commits of the worked cases touch.
 
 use crate::db::Db;
-use crate::fitting::{fits, has_few_indexes};
+use crate::fitting::fits;
 use crate::fixtures::{
     first_conflict, items, lost, made, new, number, ordered_items, phantom, redo, unique_items,
     write_skew,
@@ -9,9 +9,10 @@ use crate::fixtures::{
 use crate::legality::each_fits;
 use crate::touching::{rests, touches};
 use rdb_base::identity::Kind;
-use rdb_base::journal::{Entry, Journal, Story};
+use rdb_base::journal::{Entries, Entry, Story};
 use rdb_base::list::List;
 use rdb_base::operation::{Op, Reply};
+use rdb_schema::is_schema;
 use rdb_schema::schema::Schema;
 use std::alloc::Global;
 use std::process::Abort;
@@ -19,7 +20,7 @@ use std::test::Fail;
 
 fn story_of(entry: &Entry) -> Result<&Story, Fail> {
     match entry {
-        Entry::Commit { story, commit: _ } | Entry::Abort { story, cause: _ } => Ok(story),
+        Entry::Commit { story, .. } | Entry::Abort { story, .. } => Ok(story),
         _ => Err(Fail::new("it has no story")),
     }
 }
@@ -43,7 +44,7 @@ fn touched(
     if !fit || !each_fits(schema, Kind::ReadWrite, &story.done) {
         return Err(Fail::new("it doesn't fit"));
     }
-    if !has_few_indexes(schema) || before.classes() != schema.classes.len() {
+    if !is_schema(schema) || before.classes() != schema.classes.len() {
         return Err(Fail::new("another schema"));
     }
     Ok(touches(schema, change, before, story, operation)?)
@@ -71,7 +72,7 @@ fn expect_race(
     rt: &impl Abort,
     alloc: Global,
     schema: &Schema,
-    journal: &Journal,
+    journal: &Entries,
     expected: &[(u32, bool)],
 ) -> Result<(), Fail> {
     let entries = journal.as_slice();

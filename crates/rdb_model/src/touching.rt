@@ -8,10 +8,12 @@ ghost use Rattle.rdb_model.specs.Database.{objects_of, row_of};
 ghost use Rattle.rdb_schema.specs.Indexes.{indexes_of};
 ghost use Rattle.rdb_model.specs.Index.{key, pair_of};
 ghost use Rattle.rdb_model.specs.Answer.{words_of};
-ghost use Rattle.rdb_model.specs.Fits.{Fits, HasFewIndexes, AllFit};
+ghost use Rattle.rdb_schema.specs.Schemas.{IsSchema};
+ghost use Rattle.rdb_model.specs.Fits.{Fits, AllFit};
 ghost use Rattle.rdb_model.specs.Story.{after};
 ghost use Rattle.rdb_model.specs.Journal.{done_of};
-ghost use Rattle.rdb_model.specs.Touch.{touched, rests, rests_on, relates, shares_key, written_by, class_of, is_within, any_rests};
+ghost use Rattle.rdb_base.specs.Operations.{class_of};
+ghost use Rattle.rdb_model.specs.Touch.{touched, rests, rests_on, relates, shares_key, written_by, is_within, is_looked_at, any_rests};
 
 use crate::db::Db;
 use crate::declared::{class_indexes, index_fields};
@@ -71,64 +73,13 @@ fn has_related(fields: &Numbers, row: &Row, how: How, text: &Text) -> bool
     }
 }
 
-// The class that an operation is of.
-fn class_of(op: &Op) -> u32
-    ensures { result ≡ class_of op.now }
-{
-    match op {
-        Op::New {
-            class,
-            row: _,
-            id: _,
-        }
-        | Op::Get { class, id: _ }
-        | Op::Put {
-            class,
-            id: _,
-            row: _,
-        }
-        | Op::Del { class, id: _ }
-        | Op::Find {
-            class,
-            index: _,
-            key: _,
-        }
-        | Op::Seek {
-            class,
-            index: _,
-            place: _,
-            up: _,
-        }
-        | Op::Area {
-            class,
-            index: _,
-            rect: _,
-            inside: _,
-        }
-        | Op::Prefix {
-            class,
-            index: _,
-            text: _,
-            how: _,
-        }
-        | Op::Count { class } => *class,
-    }
-}
-
 // The class and the id of the object that an operation wrote, if it did.
 fn written_by(op: &Op, told: &Reply) -> Option<(u32, u64)>
     ensures { result ≡ written_by (op.now, told.now) }
 {
     match (op, told) {
-        (
-            Op::New {
-                class,
-                row: _,
-                id: _,
-            },
-            Reply::Made(id),
-        ) => Some((*class, *id)),
-        (Op::Put { class, id, row: _ }, Reply::Done) => Some((*class, *id)),
+        (Op::New { class, .. }, Reply::Made(id)) => Some((*class, *id)),
+        (Op::Put { class, id, .. }, Reply::Done) => Some((*class, *id)),
         (Op::Del { class, id }, Reply::Done) => Some((*class, *id)),
         _ => None,
     }
@@ -143,46 +94,42 @@ pub fn rests(schema: &Schema, op: &Op, told: &Reply, id: u64, row: &Row) -> bool
         Op::New {
             class,
             row: own,
-            id: _,
+            ..
         } => shares_key(class_indexes(schema, *class), own, row),
-        Op::Get {
-            class: _,
-            id: wanted,
-        }
-        | Op::Del {
-            class: _,
-            id: wanted,
-        } => id == *wanted,
+        Op::Get { id: wanted, .. } | Op::Del { id: wanted, .. } => id == *wanted,
         Op::Put {
             class,
             id: wanted,
             row: own,
-        } => { id == *wanted || shares_key(class_indexes(schema, *class), own, row) }
-        Op::Find { class, index, key } => {
-            compare_key(index_fields(schema, *class, *index), row, key).is_eq()
+        } => id == *wanted || shares_key(class_indexes(schema, *class), own, row),
+        Op::Find { class, index, .. } => {
+            is_looked_at(index_fields(schema, *class, *index), op, told, id, row)
         }
-        Op::Seek {
-            class,
-            index,
-            place,
-            up,
-        } => {
-            let fields = index_fields(schema, *class, *index);
+        Op::Seek { class, index, .. } => {
+            is_looked_at(index_fields(schema, *class, *index), op, told, id, row)
+        }
+        Op::Area { class, index, .. } => {
+            is_looked_at(index_fields(schema, *class, *index), op, told, id, row)
+        }
+        Op::Prefix { class, index, .. } => {
+            is_looked_at(index_fields(schema, *class, *index), op, told, id, row)
+        }
+        Op::Count { .. } => true,
+    }
+}
+
+// Whether a lookup in an index with these fields looks at an object.
+fn is_looked_at(fields: &Numbers, op: &Op, told: &Reply, id: u64, row: &Row) -> bool
+    ensures { result ≡ is_looked_at fields.now op.now told.now id row.now }
+{
+    match op {
+        Op::Find { key, .. } => compare_key(fields, row, key).is_eq(),
+        Op::Seek { place, up, .. } => {
             is_beyond(fields, id, row, place, *up) && is_within(fields, id, row, told, *up)
         }
-        Op::Area {
-            class,
-            index,
-            rect,
-            inside,
-        } => { has_box(index_fields(schema, *class, *index), row, rect, *inside) }
-        Op::Prefix {
-            class,
-            index,
-            text,
-            how,
-        } => { has_related(index_fields(schema, *class, *index), row, *how, text) }
-        Op::Count { class: _ } => true,
+        Op::Area { rect, inside, .. } => has_box(fields, row, rect, *inside),
+        Op::Prefix { text, how, .. } => has_related(fields, row, *how, text),
+        _ => false,
     }
 }
 
@@ -192,10 +139,10 @@ fn rests_on(schema: &Schema, db: &Db, op: &Op, told: &Reply, class: u32, id: u64
     requires classes { length db.now ≡ length schema.now.classes }
     ensures { result ≡ rests_on schema.now db.now (op.now, told.now) (class, id) }
 {
-    if class != class_of(op) {
+    if class != op.class() {
         return false;
     }
-    match db.row(class_of(op), id) {
+    match db.row(op.class(), id) {
         Some(row) => rests(schema, op, told, id, row),
         None => false,
     }
@@ -234,14 +181,10 @@ pub fn touches(
     requires commit_fits { AllFit schema.now Kind.ReadWrite (done_of commit.now) }
     requires story_fits { AllFit schema.now Kind.ReadWrite story.now.done }
     requires classes { length before.now ≡ length schema.now.classes }
-    requires few_indexes { HasFewIndexes schema.now }
+    requires is_schema { IsSchema schema.now }
     ensures { IfOk result (λ answer. answer ≡ touched schema.now before.now commit.now story.now operation) }
 {
-    let Entry::Commit {
-        story: own,
-        commit: _,
-    } = commit
-    else {
+    let Entry::Commit { story: own, .. } = commit else {
         return Ok(false);
     };
     let at = operation.saturating_sub(1) as usize;

@@ -11,7 +11,7 @@ use Rattle.rdb_schema.specs.declared.schema.Class.{Class}
 use Rattle.rdb_schema.specs.declared.schema.Schema.{Schema}
 use Rattle.rdb_model.specs.Database.{Database, Row, row_of, objects_of}
 use Rattle.rdb_model.specs.Answer.{answer}
-use Rattle.rdb_model.specs.Fits.{Fits, HasFewIndexes, fits_row}
+use Rattle.rdb_model.specs.Fits.{Fits, fits_row}
 use Rattle.rdb_schema.specs.Indexes.{indexes_of}
 use Rattle.rdb_journal.specs.Lines.{StepNamesExist}
 use Rattle.rdb_runner.specs.PlainReport.{operation_of}
@@ -40,14 +40,6 @@ pub step_fits : (schema : Schema) → is_plain_schema schema ≡ true → (made 
 step_fits schema plain made asked can = by_op (λ (a : Op). Fits schema (operation_of made a) kind.ReadWrite) schema asked can
     (λ row id fit. fit)
     (λ id. by_shape (λ (s : Schema). Fits s (op.Get 0 id) kind.ReadWrite) schema plain (λ c. refl))
-
-few_plain : (s : Schema) (c : Class) (class : ℕ) → length (indexes_of (schema_of s c) class) ≤ 8
-few_plain s c zero = lit≤ tt
-few_plain s c (suc class) = lit≤ tt
-
--- there are no indexes
-pub has_few : (schema : Schema) → is_plain_schema schema ≡ true → HasFewIndexes schema
-has_few schema plain = by_shape HasFewIndexes schema plain (few_plain schema)
 
 -- there is one class
 pub one_class : (schema : Schema) → is_plain_schema schema ≡ true → length schema.classes ≡ 1

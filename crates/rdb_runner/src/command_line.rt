@@ -7,7 +7,7 @@ ghost use Rattle.rdb_runner.specs.CommandLine.{Word, Command, Part, Given, Begin
 
 use arrayvec::ArrayVec;
 use rdb_base::identity::Manager;
-use rdb_schema::decimal::number;
+use rdb_literals::decimal::number;
 
 /// The most clients of one replay or run.
 pub const MAX_CLIENTS: usize = 16;

@@ -6,9 +6,10 @@ ghost use Rattle.rdb_journal.specs.Lines.{StepNamesExist, NamesExist};
 ghost use Rattle.rdb_runner.specs.PlainReport.{AreAnswered, IsJournalOf, operation_of, makes};
 ghost use Rattle.rdb_runner.specs.PlainSchema.{is_plain_schema};
 ghost use Rattle.rdb_runner.specs.Runs.{CanRun};
+ghost use Rattle.rdb_schema.specs.Schemas.{IsSchema};
 
 use rdb_base::duplicate::Duplicate;
-use rdb_base::journal::{Done, Entry, Journal, Story};
+use rdb_base::journal::{Done, Entries, Entry, Story};
 use rdb_base::list::{List, NoMemory};
 use rdb_base::operation::Op;
 use rdb_base::order::order_is_total;
@@ -60,6 +61,7 @@ fn next_id(asked: &Op, id: u64) -> u64
 /// The lines' operations in order with the answers of a database that was empty. The cost grows with the lines, and each
 /// that makes a row copies it once.
 fn answered(alloc: Global, schema: &Schema, lines: &ScriptLines) -> Result<Done, NoMemory>
+    requires is_schema { IsSchema schema.now }
     requires plain { is_plain_schema schema.now ≡ true }
     requires few { length lines.now ≤ 1000 }
     requires each { AllByRecursion (CanRun schema.now) lines.now }
@@ -84,7 +86,8 @@ pub fn plain_journal(
     alloc: Global,
     schema: &Schema,
     lines: &ScriptLines,
-) -> Result<Journal, NoMemory>
+) -> Result<Entries, NoMemory>
+    requires is_schema { IsSchema schema.now }
     requires plain { is_plain_schema schema.now ≡ true }
     requires few { length lines.now ≤ 1000 }
     requires each { AllByRecursion (CanRun schema.now) lines.now }

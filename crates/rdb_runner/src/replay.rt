@@ -13,6 +13,7 @@ ghost use Rattle.rdb_runner.specs.Reading.{sight_of, AsksFirst, IsUnreadable, Ha
 ghost use Rattle.rdb_runner.specs.Runs.{CanRun};
 ghost use Rattle.rdb_runner.specs.SchemaFile.{IsBadSchema, HasBadSchema};
 ghost use Rattle.rdb_runner.specs.Telling.{IsSilent, ink_of, Shows};
+ghost use Rattle.rdb_schema.specs.Schemas.{IsSchema};
 
 use crate::halt::Halt;
 use crate::part_reading::{schedule_in, script_in};
@@ -46,6 +47,7 @@ pub struct Job {
 
 /// The lines of the report of a schema and a client's lines. The cost grows with them.
 fn lines_of(alloc: Global, schema: &Schema, lines: &ScriptLines) -> Result<Lines, NoMemory>
+    requires is_schema { IsSchema schema.now }
     requires plain { is_plain_schema schema.now ≡ true }
     requires few { length lines.now ≤ 1000 }
     requires each { AllByRecursion (CanRun schema.now) lines.now }
@@ -67,6 +69,7 @@ fn report_over(
     schedule: &[u8],
     client: &[u8],
 ) -> Result<Lines, Halt>
+    requires { IsSchema schema.now }
     ensures { (text : List ℕ) → IsRead text schema.now → IsWork text schedule.now client.now result }
 {
     let script = match script_in(alloc, schema, client) {

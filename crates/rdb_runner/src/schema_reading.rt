@@ -2,6 +2,7 @@
 
 ghost use Rattle.std.specs.Prelude.{◌≡◌, ◌≢◌, ◌≤◌, length, IfOk, IfErr};
 ghost use Rattle.std.specs.Bool.{OnTrue, OnFalse};
+ghost use Rattle.rdb_schema.specs.Schemas.{IsSchema};
 ghost use Rattle.rdb_schema.specs.declared.syntax.DdlCause.TheVariants.{NoMemory as WantOfMemory};
 ghost use Rattle.rdb_ddl.specs.Read.{IsRead};
 ghost use Rattle.rdb_runner.specs.SchemaFile.{IsNoSchema};
@@ -31,6 +32,7 @@ fn is_want_of_memory(cause: DdlCause) -> bool
 pub fn schema_in(alloc: Global, text: &[u8]) -> Result<Schema, NoSchema>
     requires { length text.now ≤ 16777216 }
     ensures read { IfOk result (IsRead text.now) }
+    ensures schema { IfOk result IsSchema }
     ensures refused { IfErr result (IsNoSchema text.now) }
 {
     match read(alloc, text) {

@@ -1,4 +1,4 @@
--- Rows that hold are short, where no class and no struct has many fields.
+-- Rows that hold are short.
 use Rattle.std.proofs.Common.{◌≡◌, ℕ, ◌*◌, ◌≤◌, Bool, true, false, ◌&&◌, List, [], ◌∷◌, length, Option, Some, None, slice_get, refl, if◌then◌else◌, ◌==◌, arith}
 use Rattle.std.specs.Prelude.{nat_le, ℤ}
 use Rattle.std.specs.List.{list_all}
@@ -18,7 +18,9 @@ use Rattle.rdb_schema.specs.declared.schema.Field.{Field}
 use Rattle.rdb_schema.specs.declared.schema.Group.{Group}
 use Rattle.rdb_schema.specs.declared.schema.Class.{Class}
 use Rattle.rdb_schema.specs.declared.schema.Schema.{Schema}
-use Rattle.rdb_schema.specs.Values.{has_bits, num_holds, leaf_holds, leaves_hold, group_holds, element_holds, holds, values_hold, row_holds, leaf_length, leaves_length, group_length, element_length, elements_length, value_length, values_length, row_length, HasFewFields}
+use Rattle.rdb_schema.specs.Values.{has_bits, num_holds, leaf_holds, leaves_hold, group_holds, element_holds, holds, values_hold, row_holds, leaf_length, leaves_length, group_length, element_length, elements_length, value_length, values_length, row_length}
+use Rattle.rdb_schema.specs.Schemas.{IsSchema}
+use Rattle.rdb_schema.proofs.SchemaLemmas.{few_fields, few_group_fields}
 
 first_of : (a b : Bool) → (a && b) ≡ true → a ≡ true
 first_of true b e = refl
@@ -59,13 +61,13 @@ leaves_small (f ∷ fs) (l ∷ ls) e =
     let rest = leaves_small fs ls (second_of (leaf_holds f.ty l) (leaves_hold fs ls) e) in
     omega arith
 
-module _ (schema : Schema) (few : HasFewFields schema) where
+module _ (schema : Schema) (is_one : IsSchema schema) where
   group_small : (group : ℕ) (ls : List Leaf) → group_holds schema group ls ≡ true → group_length schema group ls ≤ 8192
   group_small group ls e = go (slice_get schema.groups group) refl e
     where
       go : (o : Option Group) → slice_get schema.groups group ≡ o → option_map_or (λ g. leaves_hold g.fields ls) o false ≡ true → option_map_or (λ g. leaves_length g.fields ls) o 0 ≤ 8192
       go None is e = omega arith
-      go (Some g) is e = omega (arith, leaves_small g.fields ls e, few.1 group g is)
+      go (Some g) is e = omega (arith, leaves_small g.fields ls e, few_group_fields schema is_one group g is)
 
   element_small : (of : Plain) (x : Element) → element_holds schema of x ≡ true → element_length schema of x ≤ 8192
   element_small (plain.Num bytes signed) (element.Leaf l) e = omega (arith, leaf_small (ty.Num bytes signed) l e)
@@ -119,4 +121,4 @@ module _ (schema : Schema) (few : HasFewFields schema) where
     where
       go : (o : Option Class) → slice_get schema.classes class ≡ o → option_map_or (λ c. values_hold schema c.fields row) o false ≡ true → option_map_or (λ c. values_length schema c.fields row) o 0 ≤ 16777248
       go None is e = omega arith
-      go (Some c) is e = omega (arith, values_small c.fields row e, few.0 class c is)
+      go (Some c) is e = omega (arith, values_small c.fields row e, few_fields schema is_one class c is)

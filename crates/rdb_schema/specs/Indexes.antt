@@ -8,6 +8,10 @@ use Rattle.rdb_schema.specs.declared.schema.IndexKind.{IndexKind}
 use Rattle.rdb_schema.specs.declared.schema.IndexKind.TheVariants as index_kind
 use Rattle.rdb_schema.specs.declared.schema.Schema.{Schema}
 
+-- the fields of a class
+abbrev pub class_fields : Schema → ℕ → List Field
+class_fields schema class = option_map_or (λ c. c.fields) (slice_get schema.classes class) []
+
 -- the indexes of a class
 abbrev pub indexes_of : Schema → ℕ → List IndexDecl
 indexes_of schema class = option_map_or (λ c. c.indexes) (slice_get schema.classes class) []

@@ -1,4 +1,3 @@
-pub mod Printed
 pub mod Values
 pub mod Indexes
 pub mod Rules
@@ -6,6 +5,16 @@ pub mod Seen
 pub mod Meaning
 pub mod Capped
 pub mod Proper
-pub mod FirstSigns
-pub mod SpelledValues
-pub mod Spelling
+pub mod Keyword
+pub mod Names
+pub mod Limits
+pub mod Resolved
+pub mod SpelledSchemas
+pub mod Keys
+pub mod Schemas
+pub mod Checked
+pub mod PartOrder
+pub mod SchemaParts
+pub mod Types
+pub mod Encoding
+pub mod Encodes

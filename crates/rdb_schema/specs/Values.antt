@@ -1,7 +1,7 @@
 -- What values a type has, and how many bytes they take by the encoding of rows.
-use Rattle.std.specs.Prelude.{ℕ, ◌≤◌, ◌+◌, ◌-◌, ◌*◌, ◌^◌, Bool, true, false, ◌&&◌, ◌||◌, ◌==◌, nat_le, ℤ, pos, neg_ℤ, int_le, List, [], ◌∷◌, length, slice_get, if◌then◌else◌}
+use Rattle.std.specs.Prelude.{ℕ, ◌+◌, ◌-◌, ◌^◌, Bool, true, false, ◌&&◌, ◌==◌, nat_le, ℤ, pos, neg_ℤ, int_le, List, [], ◌∷◌, length, slice_get, if◌then◌else◌}
 use Rattle.std.specs.List.{list_all}
-use Rattle.std.specs.Option.{option_map_or, ForSome}
+use Rattle.std.specs.Option.{option_map_or}
 use Rattle.rdb_base.specs.declared.value.Leaf.{Leaf}
 use Rattle.rdb_base.specs.declared.value.Leaf.TheVariants as leaf
 use Rattle.rdb_base.specs.declared.value.Element.{Element}
@@ -13,8 +13,6 @@ use Rattle.rdb_schema.specs.declared.schema.Plain.TheVariants as plain
 use Rattle.rdb_schema.specs.declared.schema.FieldType.{FieldType}
 use Rattle.rdb_schema.specs.declared.schema.FieldType.TheVariants as ty
 use Rattle.rdb_schema.specs.declared.schema.Field.{Field}
-use Rattle.rdb_schema.specs.declared.schema.Group.{Group}
-use Rattle.rdb_schema.specs.declared.schema.Class.{Class}
 use Rattle.rdb_schema.specs.declared.schema.Schema.{Schema}
 
 -- whether a number has that many bits, in two's complement where it is signed
@@ -120,8 +118,3 @@ row_holds schema class row = option_map_or (λ c. values_hold schema c.fields ro
 -- how many bytes a row of a class takes
 abbrev pub row_length : Schema → ℕ → List Value → ℕ
 row_length schema class row = option_map_or (λ c. values_length schema c.fields row) (slice_get schema.classes class) 0
-
--- that no class and no struct has more than 32 fields, as the rules of schemas have it
-abbrev pub HasFewFields : Schema → Type 0
-HasFewFields schema =
-    ((class : ℕ) → ForSome (slice_get schema.classes class) (λ c. length c.fields ≤ 32)) × ((group : ℕ) → ForSome (slice_get schema.groups group) (λ g. length g.fields ≤ 32))

@@ -28,7 +28,7 @@ fn number_of(place: usize) -> u32
 }
 
 #[tactic(auto, using(crate::proofs::Building::place_steps))]
-fn group_place(groups: &[Group], name: &Text) -> u32
+pub fn group_place(groups: &[Group], name: &Text) -> u32
     ensures { result ≡ group_place groups.now name.now }
 {
     let mut place = 0;
@@ -39,7 +39,7 @@ fn group_place(groups: &[Group], name: &Text) -> u32
 }
 
 #[tactic(auto, using(crate::proofs::Building::place_steps))]
-fn field_place(fields: &[Field], name: &Text) -> u32
+pub fn field_place(fields: &[Field], name: &Text) -> u32
     ensures { result ≡ field_place fields.now name.now }
 {
     let mut place = 0;

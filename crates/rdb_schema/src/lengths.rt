@@ -1,7 +1,8 @@
 //! How many bytes a row takes by the encoding of rows. It reads values and changes nothing.
 
 ghost use Rattle.std.specs.Prelude.{◌≡◌, ◌+◌, IsTrue, min};
-ghost use Rattle.rdb_schema.specs.Values.{row_holds, row_length, values_length, value_length, elements_length, element_length, group_length, leaves_length, leaf_length, HasFewFields};
+ghost use Rattle.rdb_schema.specs.Values.{row_holds, row_length, values_length, value_length, elements_length, element_length, group_length, leaves_length, leaf_length};
+ghost use Rattle.rdb_schema.specs.Schemas.{IsSchema};
 ghost use Rattle.rdb_schema.specs.Capped.{capped};
 
 use crate::schema::{FieldType, Fields, Plain, Schema};
@@ -11,7 +12,7 @@ use rdb_base::value::{Element, Elements, Leaf, Leaves, Row, Value};
 /// elements, structs their leaves. It takes no memory. The cost grows with the number of leaves.
 pub fn length(schema: &Schema, class: u32, row: &Row) -> u32
     requires holds { IsTrue (row_holds schema.now class row.now) }
-    requires few_fields { HasFewFields schema.now }
+    requires schema { IsSchema schema.now }
     ensures { result ≡ row_length schema.now class row.now }
 {
     capped_length(schema, class, row)

@@ -8,16 +8,10 @@ ghost use Rattle.std.specs.Option.{option_copied};
 
 use crate::schema::{IndexKind, Plain};
 use crate::syntax::{DdlCause, Part};
+use rdb_base::limits::{
+    MAX_CLASSES, MAX_EVENTS, MAX_FIELDS, MAX_INDEXES, MAX_KEY_FIELDS, MAX_STRUCTS,
+};
 use rdb_base::text::Text;
-
-/// The most structs, and the most classes, of a schema.
-const DECLARATION_LIMIT: usize = 64;
-/// The most fields of a struct or a class.
-const FIELD_LIMIT: usize = 32;
-/// The most indexes, and the most events, of a class.
-const INDEX_LIMIT: usize = 8;
-/// The most fields of a key.
-const KEY_LIMIT: usize = 4;
 
 /// What stands before a part: the names of the structs and of the classes that were declared, the one
 /// in which the part stands included, and the parts between its beginning and the part.
@@ -319,7 +313,7 @@ fn group_cause(context: &Context<'_>, name: &Text) -> Option<DdlCause>
 {
     if is_declared(context, name) {
         Some(DdlCause::Twice)
-    } else if context.groups.len() >= DECLARATION_LIMIT {
+    } else if context.groups.len() >= MAX_STRUCTS {
         Some(DdlCause::TooMany)
     } else {
         None
@@ -333,7 +327,7 @@ fn class_cause(context: &Context<'_>, name: &Text, after: &[Part]) -> Option<Ddl
         Some(DdlCause::Twice)
     } else if !has_member(body_of(after)) {
         Some(DdlCause::BadKey)
-    } else if context.classes.len() >= DECLARATION_LIMIT {
+    } else if context.classes.len() >= MAX_CLASSES {
         Some(DdlCause::TooMany)
     } else {
         None
@@ -355,7 +349,7 @@ fn member_cause(front: &[Part], name: &Text) -> Option<DdlCause>
 {
     if is_taken(front, name) {
         Some(DdlCause::Twice)
-    } else if members(front) >= FIELD_LIMIT {
+    } else if members(front) >= MAX_FIELDS {
         Some(DdlCause::TooMany)
     } else {
         None
@@ -367,7 +361,7 @@ fn event_cause(front: &[Part], name: &Text) -> Option<DdlCause>
 {
     if is_taken(front, name) {
         Some(DdlCause::Twice)
-    } else if event_names(front) >= INDEX_LIMIT {
+    } else if event_names(front) >= MAX_EVENTS {
         Some(DdlCause::TooMany)
     } else {
         None
@@ -391,7 +385,7 @@ fn index_cause(front: &[Part], name: &Text) -> Option<DdlCause>
         Some(DdlCause::Twice)
     } else if is_unique_rtree(front) {
         Some(DdlCause::BadKey)
-    } else if index_names(front) >= INDEX_LIMIT {
+    } else if index_names(front) >= MAX_INDEXES {
         Some(DdlCause::TooMany)
     } else {
         None
@@ -404,7 +398,7 @@ fn typed_key_cause(ty: &Part, front: &[Part], name: &Text) -> Option<DdlCause>
     let (_, keys) = front.split_at(keys_at(front));
     if breaks_key(front, ty, name, keys) {
         Some(DdlCause::BadKey)
-    } else if keys.len() >= KEY_LIMIT {
+    } else if keys.len() >= MAX_KEY_FIELDS {
         Some(DdlCause::TooMany)
     } else {
         None

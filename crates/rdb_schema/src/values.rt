@@ -5,6 +5,7 @@ ghost use Rattle.std.specs.List.{list_all};
 ghost use Rattle.rdb_schema.specs.Values.{holds, leaf_holds, leaves_hold, group_holds, element_holds, num_holds, has_bits, row_holds, values_hold};
 
 use crate::schema::{FieldType, Fields, Plain, Schema};
+use rdb_base::limits::{MAX_ELEMENTS, MAX_TEXT};
 use rdb_base::value::{Element, Elements, Leaf, Leaves, Row, Value};
 
 /// Whether a value is one of a type: a number in range, a text of at most 255 bytes, a box whose first corner isn't beyond the second, a
@@ -14,7 +15,7 @@ pub fn holds(schema: &Schema, ty: &FieldType, value: &Value) -> bool
 {
     match (ty, value) {
         (FieldType::Vector(of), Value::List(elements)) => {
-            elements.len() <= 64 && elements_hold(schema, of, elements)
+            elements.len() <= MAX_ELEMENTS && elements_hold(schema, of, elements)
         }
         (FieldType::Struct(group), Value::Group(leaves)) => group_holds(schema, *group, leaves),
         (FieldType::Vector(_) | FieldType::Struct(_), _) => false,
@@ -44,7 +45,7 @@ fn element_holds(schema: &Schema, of: &Plain, element: &Element) -> bool
         (Plain::Num { bytes, signed }, Element::Leaf(Leaf::Num(n))) => {
             num_holds(*bytes, *signed, *n)
         }
-        (Plain::Str, Element::Leaf(Leaf::Text(words))) => words.as_str().len() <= 255,
+        (Plain::Str, Element::Leaf(Leaf::Text(words))) => words.as_str().len() <= MAX_TEXT,
         (Plain::Box4, Element::Leaf(Leaf::Rect(rect))) => rect.x1 <= rect.x2 && rect.y1 <= rect.y2,
         _ => false,
     }
@@ -81,7 +82,7 @@ fn leaf_holds(ty: &FieldType, leaf: &Leaf) -> bool
 {
     match (ty, leaf) {
         (FieldType::Num { bytes, signed }, Leaf::Num(n)) => num_holds(*bytes, *signed, *n),
-        (FieldType::Str, Leaf::Text(words)) => words.as_str().len() <= 255,
+        (FieldType::Str, Leaf::Text(words)) => words.as_str().len() <= MAX_TEXT,
         (FieldType::Box4, Leaf::Rect(rect)) => rect.x1 <= rect.x2 && rect.y1 <= rect.y2,
         _ => false,
     }

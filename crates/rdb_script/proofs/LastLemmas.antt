@@ -9,7 +9,7 @@ use Rattle.rdb_schema.specs.Values.{row_length}
 use Rattle.rdb_schema.specs.Capped.{capped}
 use Rattle.rdb_script.specs.declared.statement.Member.{Member}
 use Rattle.rdb_script.specs.Lines.{after_blanks, is_end}
-use Rattle.rdb_schema.specs.SpelledValues.{IsSpelledRow, IsSpelledKey, IsSpelledText, IsRectText}
+use Rattle.rdb_literals.specs.SpelledValues.{IsSpelledRow, IsSpelledKey, IsSpelledText, IsRectText}
 use Rattle.rdb_script.specs.Statements.{IsLastRow, IsLastKey, IsLastRect, IsLastText}
 
 pub row_found : (schema : Schema) (class : ℕ) (text front spelled rest : List ℕ) (row : List Value) (len : ℕ) → front ≡ after_blanks text → IsSpelledRow schema class spelled row → front ≡ spelled ++ rest → is_end rest ≡ true → len ≡ capped (row_length schema class row) → len ≤ 4000 → IsLastRow schema class text row

@@ -10,7 +10,7 @@ use Rattle.std.proofs.lemmas.Bool.{cond-true, cond-false, eqb-true, ltb-true, lt
 use Rattle.std.proofs.lemmas.List.{append-nil}
 use Rattle.std.proofs.lemmas.List.Sums.{fails_before_first, passes_at_first}
 use Rattle.rdb_script.specs.Lines.{lines, without_return, is_blank, after_blanks, word, behind, is_end, is_comment, begins_name, goes_on_with_name, is_name, name_in}
-use Rattle.rdb_schema.proofs.SpellingLemmas.{none_passes}
+use Rattle.rdb_literals.proofs.SpellingLemmas.{none_passes}
 
 -- a byte at the line's end, where a line feed follows
 ends_line : (byte : ℕ) (more : List (List ℕ)) (feed return : Bool) → feed ≡ false → cond feed ([] ∷ more) (cond (return && true) ([] ∷ more) (onto_first byte ([] ∷ more))) ≡ cond return [] (byte ∷ []) ∷ more

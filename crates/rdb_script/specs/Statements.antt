@@ -39,7 +39,7 @@ use Rattle.rdb_script.specs.declared.statement.Origin.{Origin}
 use Rattle.rdb_script.specs.declared.statement.Target.{Target}
 use Rattle.rdb_script.specs.declared.unit.ScriptLine.{ScriptLine}
 use Rattle.rdb_script.specs.Lines.{word, behind, after_blanks, is_end, is_comment, is_name, name_in}
-use Rattle.rdb_schema.specs.SpelledValues.{IsSpelledRow, IsSpelledKey, IsSpelledText, IsRectText}
+use Rattle.rdb_literals.specs.SpelledValues.{IsSpelledRow, IsSpelledKey, IsSpelledText, IsRectText}
 
 -- what names stand for
 abbrev pub Known : Type 0

@@ -10,10 +10,10 @@ use crate::word::{after_blanks, is_end};
 use rdb_base::list::NoMemory;
 use rdb_base::text::Text;
 use rdb_base::value::{Rect, Row};
+use rdb_literals::spelled::numbers::rect_at;
+use rdb_literals::spelled::typed::{key_at, row_at, text_at};
 use rdb_schema::lengths::capped_length;
 use rdb_schema::schema::Schema;
-use rdb_schema::spelled::numbers::rect_at;
-use rdb_schema::spelled::typed::{key_at, row_at, text_at};
 use std::alloc::Global;
 
 /// The most bytes of a row's encoding.

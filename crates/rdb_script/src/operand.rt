@@ -12,7 +12,7 @@ use crate::statement::{Member, Target};
 use crate::word::{is_end, name_in, next_word};
 use rdb_base::list::NoMemory;
 use rdb_base::text::Text;
-use rdb_schema::decimal::{number, text_of};
+use rdb_literals::decimal::{number, text_of};
 use rdb_schema::schema::Schema;
 use std::alloc::Global;
 

@@ -7,8 +7,8 @@ ghost use Rattle.rdb_script.specs.Schedule.{separates, begins_word, words, word_
 use crate::fault::ScheduleFault;
 use crate::item::{Item, Items};
 use rdb_base::list::List;
-use rdb_schema::decimal::printed;
-use rdb_schema::front::{after, before, is_word};
+use rdb_literals::decimal::printed;
+use rdb_literals::front::{after, before, is_word};
 use std::alloc::Global;
 
 /// The most items of a schedule.

@@ -19,7 +19,7 @@ use crate::word::{is_comment, is_end, name_in, next_word};
 use rdb_base::identity::Kind;
 use rdb_base::list::NoMemory;
 use rdb_base::text::Text;
-use rdb_schema::decimal::is_text;
+use rdb_literals::decimal::is_text;
 use rdb_schema::schema::Schema;
 use std::alloc::Global;
 

@@ -5,8 +5,8 @@ ghost use Rattle.std.specs.List.{position_or_len, list_all};
 ghost use Rattle.std.specs.Option.{option_copied};
 ghost use Rattle.rdb_script.specs.Lines.{lines, without_return, is_blank, after_blanks, word, behind, is_end, is_comment, begins_name, goes_on_with_name, is_name, name_in};
 
-use rdb_schema::decimal::text_of;
-use rdb_schema::front::before;
+use rdb_literals::decimal::text_of;
+use rdb_literals::front::before;
 
 /// The place of the first line feed.
 fn first_feed(text: &[u8]) -> Option<usize>

@@ -1,2 +1,11 @@
 pub mod BitLemmas
+pub mod PageSetLemmas
+pub mod ListLemmas
+pub mod TableLemmas
 pub mod SpaceLemmas
+pub mod ImageLemmas
+pub mod FreeLemmas
+pub mod GrantLemmas
+pub mod WriteLemmas
+pub mod FreeLists
+pub mod FreeCells

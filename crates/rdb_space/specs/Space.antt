@@ -1,9 +1,15 @@
 -- Page owners and free maps.
-use Rattle.std.specs.Prelude.{◌≡◌, ◌≢◌, ◌<◌, ◌≤◌, ℕ, ◌-◌, ◌^◌, ◌/◌, ◌%◌, ◌==◌, List, length, slice_get, Option, Some, None, Bool, true, false, count_ones, IsSome, if◌then◌else◌}
+use Rattle.std.specs.Prelude.{◌≡◌, ◌≢◌, ◌<◌, ◌≤◌, ℕ, ◌-◌, ◌^◌, ◌/◌, ◌%◌, ◌==◌, List, length, slice_get, Option, Some, None, Bool, count_ones, IsSome, if◌then◌else◌}
 use Rattle.std.specs.Int.{bit_at}
 use Rattle.rdb_pages.specs.declared.cell.CellRef.{CellRef}
 use Rattle.rdb_pages.specs.Pages.{page_cells, page_of, place_of}
+use Rattle.rdb_space.specs.Bits.{WithBit}
 use Rattle.rdb_space.specs.declared.page.PageState.{PageState}
+
+-- the pages of a region, and how many classes may own them
+pub record PageTable : Type 0 where
+  pub pages : List PageState
+  pub classes : ℕ
 
 -- a page without an owner
 abbrev pub unowned : PageState
@@ -21,21 +27,15 @@ room_of class free (Some owner) = if owner == class then count_ones free else 0
 abbrev pub room_in : ℕ → PageState → ℕ
 room_in class page = room_of class page.free page.owner
 
--- the bit that stands for a choice
-abbrev pub bit_of : Bool → ℕ
-bit_of true = 1
-bit_of false = 0
-
 -- the class owns the page, and the cell at the place is free
 pub record IsOpen (page : PageState) (class place : ℕ) : Type 0 where
   pub owned : page.owner ≡ Some class
   pub bit : bit_at page.free place ≡ 1
 
--- the page with this bit at the place, and all else as it was
-pub record WithBit (before after : PageState) (place : ℕ) (bit : Bool) : Type 0 where
+-- the page with the cell at the place free or not, and all else as it was
+pub record Marks (before after : PageState) (place : ℕ) (free : Bool) : Type 0 where
   pub owner : after.owner ≡ before.owner
-  pub here : bit_at after.free place ≡ bit_of bit
-  pub elsewhere : (i : ℕ) → i < page_cells → i ≢ place → bit_at after.free i ≡ bit_at before.free i
+  pub bits : WithBit before.free after.free place free
 
 -- no page below has no owner, and this one has none
 pub record IsLowestUnowned (pages : List PageState) (page : ℕ) : Type 0 where
@@ -46,12 +46,6 @@ pub record IsLowestUnowned (pages : List PageState) (page : ℕ) : Type 0 where
 abbrev pub AllOwned : List PageState → Type 0
 AllOwned pages = (i : ℕ) (p : PageState) → slice_get pages i ≡ Some p → IsSome p.owner
 
--- the pages below have owners, and the others none
-pub record OwnsBelow (pages : List PageState) (count : ℕ) : Type 0 where
-  pub within : count ≤ length pages
-  pub below : (i : ℕ) (p : PageState) → i < count → slice_get pages i ≡ Some p → IsSome p.owner
-  pub above : (i : ℕ) (p : PageState) → count ≤ i → slice_get pages i ≡ Some p → p.owner ≡ None
-
 -- the cell is one of a page that has an owner
 abbrev pub IsOwned : List PageState → CellRef → Type 0
 IsOwned pages at = (0 < at.number) × ((p : PageState) × (slice_get pages (page_of at) ≡ Some p) × IsSome p.owner)
@@ -59,7 +53,7 @@ IsOwned pages at = (0 < at.number) × ((p : PageState) × (slice_get pages (page
 -- the cell's bit says whether it is free, and all else is as it was
 pub record Follows (before after : List PageState) (at : CellRef) (free : Bool) : Type 0 where
   pub count : length after ≡ length before
-  pub here : (p q : PageState) → slice_get before (page_of at) ≡ Some p → slice_get after (page_of at) ≡ Some q → WithBit p q (place_of at) free
+  pub here : (p q : PageState) → slice_get before (page_of at) ≡ Some p → slice_get after (page_of at) ≡ Some q → Marks p q (place_of at) free
   pub elsewhere : (i : ℕ) → i ≢ page_of at → slice_get after i ≡ slice_get before i
 
 -- the number is that of a free cell in a page of the class

@@ -1,6 +1,9 @@
 //! What is kept of one page: its owner, and which of its cells are free.
-ghost use Rattle.std.specs.Prelude.{◌≡◌, ◌<◌, ◌≤◌, ℕ, Some, IfSome, IfNone};
-ghost use Rattle.rdb_space.specs.Space.{room_in, WithBit, IsOpen};
+ghost use Rattle.std.specs.Prelude.{◌≡◌, ◌<◌};
+ghost use Rattle.rdb_pages.specs.Pages.{page_cells};
+ghost use Rattle.rdb_space.specs.Space.{granted_to, Marks};
+
+use crate::words::with_bit;
 
 /// A page's owner, if it has one, and its free map: bit i of the word, from the lowest, is 1 exactly where the cell at place
 /// i is free.
@@ -17,54 +20,24 @@ impl PageState {
         free: 0,
     };
 
-    /// Returns what the page adds to the room of the class: its free cells where the class owns it, and all its cells where
-    /// no class does.
-    pub(crate) fn room(&self, class: u32) -> u32
-        ensures room { result ≡ room_in class self.now }
-        ensures small { result ≤ 64 }
+    /// A page of the class, all of whose cells are free.
+    pub(crate) fn granted_to(class: u32) -> PageState
+        ensures { result ≡ granted_to class }
     {
-        match self.owner {
-            Some(owner) => {
-                if owner == class {
-                    self.free.count_ones()
-                } else {
-                    0
-                }
-            }
-            None => 64,
-        }
-    }
-
-    /// Returns the lowest place of a free cell from `from` on, where the class owns the page.
-    pub(crate) fn free_from(&self, class: u32, from: u32) -> Option<u32>
-        requires { from < 64 }
-        ensures found { IfSome result (λ i. (from ≤ i) × (i < 64) × IsOpen self.now class i × ((lower : ℕ) → from ≤ lower → lower < i → ¬ IsOpen self.now class lower)) }
-        ensures none { IfNone result ((i : ℕ) → from ≤ i → i < 64 → ¬ IsOpen self.now class i) }
-    {
-        if self.owner != Some(class) {
-            return None;
-        }
-        let left = self.free & (u64::MAX << from);
-        if left == 0 {
-            None
-        } else {
-            Some(left.trailing_zeros())
+        PageState {
+            owner: Some(class),
+            free: u64::MAX,
         }
     }
 
     /// Returns the page with the cell at the place free or not.
-    pub(crate) fn with_bit(self, place: u32, free: bool) -> PageState
-        requires { place < 64 }
-        ensures { WithBit self result place free }
+    pub(crate) fn marked(self, place: u32, free: bool) -> PageState
+        requires { place < page_cells }
+        ensures { Marks self result place free }
     {
-        let bit = 1u64 << place;
         PageState {
             owner: self.owner,
-            free: if free {
-                self.free | bit
-            } else {
-                self.free & !bit
-            },
+            free: with_bit(self.free, place, free),
         }
     }
 }

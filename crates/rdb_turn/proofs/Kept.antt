@@ -468,6 +468,7 @@ module _ {T E B P : Type 0} (c : Ghosts T E B P) (made : T) (boarded : Bool) whe
     keeps_first a b away two le s r count at low =
         let k = r.knows id me.0 at in
         let goes = subst (λ (xs : List T). FollowsAll c xs r.now) two k.follows in
+        let few : me.0.shares ≤ all_shares = omega (arith, sum_at shares_of s.views id me.0 at, r.shares) in
         let w = seeing me.0 a in (
           w,
           keeps,
@@ -477,14 +478,15 @@ module _ {T E B P : Type 0} (c : Ghosts T E B P) (made : T) (boarded : Bool) whe
           λ x y is.
               let first : a ≡ x = cc (two, is) in
               let second : b ≡ y = cc (two, is) in
-              subst (λ (p : T × T). (◌≡◌ {A = Mine T} (w, me.1) (seeing me.0 p.0, me.1)) × Follows c p.1 p.0 × ¬ Contains me.0.stopped 0)
-              (λ i. (first i, second i)) (refl, follows_between c b a r.now goes.1.0 goes.0 le, nobody me.0.stopped k.knows.words),
+              subst (λ (p : T × T). (◌≡◌ {A = Mine T} (w, me.1) (seeing me.0 p.0, me.1)) × Follows c p.1 p.0 × ¬ Contains me.0.stopped 0 × (me.0.shares ≤ all_shares))
+              (λ i. (first i, second i)) (refl, follows_between c b a r.now goes.1.0 goes.0 le, nobody me.0.stopped k.knows.words, few),
         )
 
     pub keeps_second : (a b : T) → me.0.stand ≡ Away → me.0.seen ≡ a ∷ b ∷ [] → length (c.history a) ≤ length (c.history b) → Allows Rule slots id me 1 (λ n. n) (λ _ after. KeepsSecond c me after)
     keeps_second a b away two le s r count at low =
         let k = r.knows id me.0 at in
         let goes = subst (λ (xs : List T). FollowsAll c xs r.now) two k.follows in
+        let few : me.0.shares ≤ all_shares = omega (arith, sum_at shares_of s.views id me.0 at, r.shares) in
         let w = seeing me.0 b in (
           w,
           keeps,
@@ -494,8 +496,8 @@ module _ {T E B P : Type 0} (c : Ghosts T E B P) (made : T) (boarded : Bool) whe
           λ x y is.
               let first : a ≡ x = cc (two, is) in
               let second : b ≡ y = cc (two, is) in
-              subst (λ (p : T × T). (◌≡◌ {A = Mine T} (w, me.1) (seeing me.0 p.1, me.1)) × Follows c p.0 p.1 × ¬ Contains me.0.stopped 0)
-              (λ i. (first i, second i)) (refl, follows_between c a b r.now goes.0 goes.1.0 le, nobody me.0.stopped k.knows.words),
+              subst (λ (p : T × T). (◌≡◌ {A = Mine T} (w, me.1) (seeing me.0 p.1, me.1)) × Follows c p.0 p.1 × ¬ Contains me.0.stopped 0 × (me.0.shares ≤ all_shares))
+              (λ i. (first i, second i)) (refl, follows_between c a b r.now goes.0 goes.1.0 le, nobody me.0.stopped k.knows.words, few),
         )
 
     pub marks : (slot : ℕ) → Allows Rule slots id me 0 (λ n. either (eqb n slot) slot n) (λ _ after. Marks slot me after)

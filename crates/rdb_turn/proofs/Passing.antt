@@ -1,5 +1,5 @@
 -- What a pass knows after a call on its turn.
-use Rattle.std.proofs.Common.{◌≡◌, ◌≢◌, ℕ, ◌+◌, ◌-◌, ◌%◌, ◌^◌, ◌⊎◌, Bool, true, false, eqb, List, [], ◌∷◌, ◌++◌, length, get_or, refl, ap, sym, ◌∙◌, subst, inl, inr, Option, Some, None, Contains, arith}
+use Rattle.std.proofs.Common.{◌≤◌, ◌≡◌, ◌≢◌, ℕ, ◌+◌, ◌-◌, ◌%◌, ◌^◌, ◌⊎◌, Bool, true, false, eqb, List, [], ◌∷◌, ◌++◌, length, get_or, refl, ap, sym, ◌∙◌, subst, inl, inr, Option, Some, None, Contains, arith}
 use Rattle.std.proofs.lemmas.Bool.Decides.{nat_tests}
 use Rattle.std.proofs.lemmas.List.Elements.{Contains-append_left}
 use mathlib.Core.List.{IsPrefix}
@@ -79,21 +79,29 @@ module _ {T E B P : Type 0} (c : Ghosts T E B P) where
   settled_first a b m n long two is tells = λ x y seen.
       let told = tells x y seen in
       let first : a ≡ x = cc (two, seen) in
-      record { kept = x; one = inl refl; seen = told.0; of_first = follows_itself c x; of_second = told.1; counted = is ∙ ap (λ z. length (c.history z)) first; agreed = told.2 }
+      record { kept = x; one = inl refl; seen = told.0; of_first = follows_itself c x; of_second = told.1; counted = is ∙ ap (λ z. length (c.history z)) first; agreed = told.2; few = told.3 }
 
   pub settled_second : (a b : T) (m n : Mine T) (long : ℕ) → m.0.seen ≡ a ∷ b ∷ [] → long ≡ length (c.history b) → KeepsSecond c m n → Settles c m long n
   settled_second a b m n long two is tells = λ x y seen.
       let told = tells x y seen in
       let second : b ≡ y = cc (two, seen) in
-      record { kept = y; one = inr refl; seen = told.0; of_first = told.1; of_second = follows_itself c y; counted = is ∙ ap (λ z. length (c.history z)) second; agreed = told.2 }
+      record { kept = y; one = inr refl; seen = told.0; of_first = told.1; of_second = follows_itself c y; counted = is ∙ ap (λ z. length (c.history z)) second; agreed = told.2; few = told.3 }
 
   -- what a pass knows once it has met another
   pub met : (v w : View T) (a b : T) (carried : List (ℕ × Option T)) (m n : Mine T) (long : ℕ) → v.seen ≡ a ∷ [] → w.seen ≡ b ∷ [] → m ≡ (both_views v w, carried) → Settles c m long n
-      → (kept : T) × ((kept ≡ a) ⊎ (kept ≡ b)) × (◌≡◌ {A = Mine T} n (seeing (both_views v w) kept, carried)) × Follows c a kept × Follows c b kept × (long ≡ length (c.history kept)) × ¬ Contains (both_stopped v w) 0
+      → (kept : T) × ((kept ≡ a) ⊎ (kept ≡ b)) × (◌≡◌ {A = Mine T} n (seeing (both_views v w) kept, carried)) × Follows c a kept × Follows c b kept × (long ≡ length (c.history kept)) × ¬ Contains (both_stopped v w) 0 × (v.shares + w.shares ≤ all_shares)
   met v w a b carried m n long saw saw' was tells =
       let two : m.0.seen ≡ a ∷ b ∷ [] = ap (λ (k : Mine T). k.0.seen) was ∙ (λ i. saw i ++ saw' i) in
-      let told = tells a b two in
-      (told.kept, told.one, told.seen ∙ ap (λ (k : Mine T). (seeing k.0 told.kept, k.1)) was, told.of_first, told.of_second, told.counted, subst (λ (k : Mine T). ¬ Contains k.0.stopped 0) was told.agreed)
+      let told = tells a b two in (
+        told.kept,
+        told.one,
+        told.seen ∙ ap (λ (k : Mine T). (seeing k.0 told.kept, k.1)) was,
+        told.of_first,
+        told.of_second,
+        told.counted,
+        subst (λ (k : Mine T). ¬ Contains k.0.stopped 0) was told.agreed,
+        subst (λ (k : Mine T). k.0.shares ≤ all_shares) was told.few,
+      )
 
   -- what was found in a client's word stands on the board of a table that the turn may have after the look
   look_found : (turn : Turn T E B P) (id : ℕ) (new : Pass T) (client found : ℕ) (me : Mine T) → IsClient client → new.place.id ≡ id

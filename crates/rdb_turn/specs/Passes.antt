@@ -77,7 +77,7 @@ module _ {T E B P : Type 0} (c : Ghosts T E B P) where
     pub based : c.base latest ≡ base_of turn
     pub boarded : pass.place.me.0.boarded ≡ turn.boarded
     pub some_share : 0 < pass.shares
-    pub shares : pass.shares ≤ pass.place.me.0.shares
+    pub shares : pass.shares ≡ pass.place.me.0.shares
     pub fits : Fits pass.ticket pass.place.me.1 pass.place.me.0.stand
     pub inside : is_inside pass.place.me.0.stand ≡ true → pass.place.me.0.gone ≡ c.gone latest
 

@@ -1,5 +1,5 @@
 -- What each kind of step tells the one who steps: of the pass before, the number found and the pass after.
-use Rattle.std.specs.Prelude.{◌≡◌, ◌≢◌, ◌⊎◌, ℕ, ◌+◌, ◌-◌, ◌/◌, ◌%◌, ◌^◌, List, [], ◌∷◌, ◌++◌, length, map, filter, slice_index, Bool, cond, not, ◌&&◌, ◌||◌, ◌==◌, Contains, Option, Some, true, false}
+use Rattle.std.specs.Prelude.{◌≤◌, ◌≡◌, ◌≢◌, ◌⊎◌, ℕ, ◌+◌, ◌-◌, ◌/◌, ◌%◌, ◌^◌, List, [], ◌∷◌, ◌++◌, length, map, filter, slice_index, Bool, cond, not, ◌&&◌, ◌||◌, ◌==◌, Contains, Option, Some, true, false}
 use Rattle.atomic_table.specs.Table.{State, Me, rest, Seen}
 use Rattle.atomic_table.specs.Seated.{TableId}
 use Rattle.atomic_table.specs.declared.shared.Seat.{Seat}
@@ -7,7 +7,7 @@ use Rattle.rdb_base.specs.declared.chronicle.Chronicle.{Ghosts}
 use Rattle.rdb_turn.specs.declared.view.View.{View}
 use Rattle.rdb_turn.specs.declared.view.Stand.{Stand}
 use Rattle.rdb_turn.specs.declared.view.Stand.TheVariants.{Away, Waits, Inside}
-use Rattle.rdb_turn.specs.Rule.{turns_held, Owns, OwnsSlot, IsClient, Follows, FollowsAll, KeepsPart}
+use Rattle.rdb_turn.specs.Rule.{all_shares, turns_held, Owns, OwnsSlot, IsClient, Follows, FollowsAll, KeepsPart}
 
 -- what a pass knows, and what it holds of the slot
 abbrev pub Mine : Type 0 → Type 0
@@ -165,13 +165,14 @@ module _ {T E B P : Type 0} (c : Ghosts T E B P) where
   abbrev pub Fronts : Mine T → ℕ → Mine T → Type 0
   Fronts me found after = (value : T) × (after ≡ (seeing me.0 value, me.1)) × (found ≡ length (c.history value)) × FollowsAll c me.0.seen value × (turns_held me.0.stand ≡ 1 → me.0.seen ≡ value ∷ [])
 
-  -- of two values that were seen the first is kept, which comes of the other; nobody knows that client 0 has stopped
+  -- of two values that were seen the first is kept, which comes of the other; nobody knows that client 0 has stopped, and no
+  -- pass may become more than there can be
   abbrev pub KeepsFirst : Mine T → Mine T → Type 0
-  KeepsFirst me after = (a b : T) → me.0.seen ≡ a ∷ b ∷ [] → (after ≡ (seeing me.0 a, me.1)) × Follows c b a × ¬ Contains me.0.stopped 0
+  KeepsFirst me after = (a b : T) → me.0.seen ≡ a ∷ b ∷ [] → (after ≡ (seeing me.0 a, me.1)) × Follows c b a × ¬ Contains me.0.stopped 0 × (me.0.shares ≤ all_shares)
 
   -- the second is kept
   abbrev pub KeepsSecond : Mine T → Mine T → Type 0
-  KeepsSecond me after = (a b : T) → me.0.seen ≡ a ∷ b ∷ [] → (after ≡ (seeing me.0 b, me.1)) × Follows c a b × ¬ Contains me.0.stopped 0
+  KeepsSecond me after = (a b : T) → me.0.seen ≡ a ∷ b ∷ [] → (after ≡ (seeing me.0 b, me.1)) × Follows c a b × ¬ Contains me.0.stopped 0 × (me.0.shares ≤ all_shares)
 
   -- two values were seen, whose histories have these lengths
   abbrev pub SawTwo : Mine T → ℕ → ℕ → Type 0
@@ -186,6 +187,7 @@ module _ {T E B P : Type 0} (c : Ghosts T E B P) where
     pub of_second : Follows c b kept
     pub counted : long ≡ length (c.history kept)
     pub agreed : ¬ Contains me.0.stopped 0
+    pub few : me.0.shares ≤ all_shares
 
   abbrev pub Settles : Mine T → ℕ → Mine T → Type 0
   Settles me long after = (a b : T) → me.0.seen ≡ a ∷ b ∷ [] → Settled me a b long after

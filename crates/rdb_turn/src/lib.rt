@@ -16,4 +16,4 @@ mod view;
 mod waiting;
 
 pub use pass::Pass;
-pub use turn::{Turn, TurnOut};
+pub use turn::{Indivisible, Turn, TurnOut};

@@ -6,7 +6,6 @@ ghost use Rattle.rdb_turn.specs.Passes.{known, IsPassOf};
 
 use crate::{Pass, Turn};
 use rdb_base::chronicle::Chronicle;
-use rdb_base::list::NoMemory;
 use std::alloc::Global;
 use std::sync::Wait;
 use std::test::Fail;
@@ -101,7 +100,7 @@ fn look_and_meet(turn: &Turn<Count>, pass: &mut Pass<Count>, client: Pass<Count>
 }
 
 /// A turn with a board round a count of 0, the pass of its maker, and the pass of client 1.
-fn make_with_client(alloc: Global) -> Result<(Turn<Count>, Pass<Count>, Pass<Count>), NoMemory>
+fn make_with_client(alloc: Global) -> Result<(Turn<Count>, Pass<Count>, Pass<Count>), Fail>
     ensures maker { IfOk result (λ r. IsPassOf ⟦<Count as Chronicle>⟧ r.0 r.1 × ((known r.1).has_turn ≡ false)) }
     ensures client { IfOk result (λ r. IsPassOf ⟦<Count as Chronicle>⟧ r.0 r.2 × ((known r.2).has_turn ≡ false)) }
     ensures owns { IfOk result (λ r. ((known r.2).client ≡ 1) × OwnsSlot (known r.2).owned 1) }

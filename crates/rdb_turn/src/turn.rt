@@ -27,6 +27,11 @@ pub struct TurnOut {
     pub serving: u64,
 }
 
+/// A pass that may become no further pass was to be split.
+#[derive(Clone, Copy, Debug, PartialEq, Eq, Error)]
+#[error("the pass may not be split further")]
+pub struct Indivisible;
+
 /// A ticket lock round one value, with a board on which stopped clients are written.
 #[derive(Drop)]
 pub struct Turn<T: Chronicle> {
@@ -160,18 +165,21 @@ impl<T: Chronicle> Turn<T> {
         pass.length
     }
 
-    /// A second pass, which has seen what this one has, and owns no part. There are fewer than 2^64 passes of a turn, and each split halves how many a pass may become.
-    pub fn split(&self, pass: &mut Pass<T>) -> Result<Pass<T>, NoMemory>
+    /// A second pass, which has seen what this one has, and owns no part. There are fewer than 2^64 passes of a turn, and each split halves
+    /// how many a pass may become. The only error is a pass that may become no further one; it stays as it is. It takes no memory.
+    pub fn split(&self, pass: &mut Pass<T>) -> Result<Pass<T>, Indivisible>
         requires pass { IsPassOf T.Chronicle self.now pass.old }
         requires away { (known pass.old).has_turn ≡ false }
         ensures new { IfOk result (λ p. IsPassOf T.Chronicle self.now p) }
         ensures given { IfOk result (λ p. known p ≡ record (known pass.old) { owned = []; client = 0; turns = 0; shares = (known pass.old).shares / 2 }) }
         ensures kept { OnOk result (known pass.new ≡ record (known pass.old) { shares = (known pass.old).shares - (known pass.old).shares / 2 }) }
+        ensures divided { IfOk result (λ _. 2 ≤ (known pass.old).shares) }
+        ensures indivisible { IfErr result (λ _. (known pass.old).shares < 2) }
         ensures err { OnErr result (known pass.new ≡ known pass.old) }
         ensures pass { IsPassOf T.Chronicle self.now pass.new }
     {
         if pass.shares < 2 {
-            return Err(AllocError);
+            return Err(Indivisible);
         }
         let given = pass.shares / 2;
         let place = halve(&self.table.shared, &mut pass.place);
@@ -187,7 +195,7 @@ impl<T: Chronicle> Turn<T> {
     }
 
     /// A client's own pass, which takes over the client's part.
-    pub fn split_for(&self, pass: &mut Pass<T>, client: u32) -> Result<Pass<T>, NoMemory>
+    pub fn split_for(&self, pass: &mut Pass<T>, client: u32) -> Result<Pass<T>, Indivisible>
         requires pass { IsPassOf T.Chronicle self.now pass.old }
         requires away { (known pass.old).has_turn ≡ false }
         requires owns { OwnsSlot (known pass.old).owned client }
@@ -196,11 +204,13 @@ impl<T: Chronicle> Turn<T> {
         ensures owner { IfOk result (λ p. OwnsSlot (known p).owned client) }
         ensures others { (slot : ℕ) → slot ≢ client → OwnsSlot (known pass.old).owned slot → OwnsSlot (known pass.new).owned slot }
         ensures kept { OnOk result (known pass.new ≡ record (known pass.old) { owned = without client (known pass.old).owned; shares = (known pass.old).shares - (known pass.old).shares / 2 }) }
+        ensures divided { IfOk result (λ _. 2 ≤ (known pass.old).shares) }
+        ensures indivisible { IfErr result (λ _. (known pass.old).shares < 2) }
         ensures err { OnErr result (known pass.new ≡ known pass.old) }
         ensures pass { IsPassOf T.Chronicle self.now pass.new }
     {
         if pass.shares < 2 {
-            return Err(AllocError);
+            return Err(Indivisible);
         }
         let given = pass.shares / 2;
         let board = &self.table.shared;

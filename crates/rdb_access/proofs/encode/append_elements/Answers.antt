@@ -1,6 +1,6 @@
 -- One element more goes from those that are left to what is written.
-use Rattle.rdb_access.specs.Types.{element_fits}
-use Rattle.rdb_access.specs.Encoding.{element_bytes}
+use Rattle.rdb_schema.specs.Types.{element_fits}
+use Rattle.rdb_schema.specs.Encoding.{element_bytes}
 use Rattle.rdb_schema.specs.Proper.{IsProperElement}
 use Rattle.rdb_access.proofs.Proper.{each_more}
 use Rattle.rdb_access.proofs.Pairs.{element_written, each_here, each_rest}

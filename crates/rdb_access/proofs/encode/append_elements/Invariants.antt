@@ -1,8 +1,8 @@
 use Rattle.std.proofs.Common.{◌≡◌, ◌++◌, drop, true, flat_map}
 use Rattle.std.specs.List.{list_all}
-use Rattle.rdb_access.specs.Types.{element_fits}
+use Rattle.rdb_schema.specs.Types.{element_fits}
 use Rattle.rdb_schema.specs.Proper.{EachIs, IsProperElement}
-use Rattle.rdb_access.specs.Encoding.{element_bytes}
+use Rattle.rdb_schema.specs.Encoding.{element_bytes}
 use Rattle.rdb_access.proofs.encode.append_elements.Given as goal
 
 -- what is written and the bytes of the elements that are left are those of all

@@ -1,6 +1,6 @@
 -- One leaf more goes from those that are left to what is written.
 use Rattle.rdb_schema.specs.Values.{leaf_holds}
-use Rattle.rdb_access.specs.Encoding.{leaf_bytes}
+use Rattle.rdb_schema.specs.Encoding.{leaf_bytes}
 use Rattle.rdb_schema.specs.Proper.{IsProperLeaf}
 use Rattle.rdb_access.proofs.Proper.{each_more}
 use Rattle.rdb_access.proofs.Pairs.{all_here, all_rest, pairs_written}

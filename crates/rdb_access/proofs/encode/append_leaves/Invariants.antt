@@ -1,8 +1,8 @@
 use Rattle.std.proofs.Common.{◌≡◌, ◌++◌, drop, true}
 use Rattle.rdb_schema.specs.Values.{leaf_holds}
-use Rattle.rdb_access.specs.Types.{all_pairs}
+use Rattle.rdb_schema.specs.Types.{all_pairs}
 use Rattle.rdb_schema.specs.Proper.{EachIs, IsProperLeaf}
-use Rattle.rdb_access.specs.Encoding.{leaves_bytes}
+use Rattle.rdb_schema.specs.Encoding.{leaves_bytes}
 use Rattle.rdb_access.proofs.encode.append_leaves.Given as goal
 
 -- what is written and the bytes of the leaves that are left are those of all

@@ -1,6 +1,6 @@
 -- One value more goes from those that are left to what is written.
-use Rattle.rdb_access.specs.Types.{value_fits}
-use Rattle.rdb_access.specs.Encoding.{value_bytes}
+use Rattle.rdb_schema.specs.Types.{value_fits}
+use Rattle.rdb_schema.specs.Encoding.{value_bytes}
 use Rattle.rdb_schema.specs.Proper.{IsProperValue}
 use Rattle.rdb_access.proofs.Proper.{each_more}
 use Rattle.rdb_access.proofs.Pairs.{all_here, all_rest, pairs_written}

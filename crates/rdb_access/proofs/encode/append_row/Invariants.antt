@@ -1,7 +1,7 @@
 use Rattle.std.proofs.Common.{◌≡◌, ◌++◌, drop, true}
-use Rattle.rdb_access.specs.Types.{row_fits}
+use Rattle.rdb_schema.specs.Types.{row_fits}
 use Rattle.rdb_schema.specs.Proper.{EachIs, IsProperValue}
-use Rattle.rdb_access.specs.Encoding.{row_bytes}
+use Rattle.rdb_schema.specs.Encoding.{row_bytes}
 use Rattle.rdb_access.proofs.encode.append_row.Given as goal
 
 -- what is written and the bytes of the values that are left are those of all

@@ -1,5 +1,5 @@
 use Rattle.std.proofs.Common.{IsSome, rules}
-use Rattle.rdb_cells.specs.Index.{text_of}
+use Rattle.rdb_cells.specs.Keys.{text_of}
 use Rattle.rdb_cells.specs.Memory.{memory_image}
 use Rattle.rdb_cells.specs.OneKey.{version_of_header}
 use Rattle.rdb_cells.proofs.KeyLemmas.{held_version}
@@ -8,4 +8,4 @@ use Rattle.rdb_cells.proofs.index_tests.byte_of.Goals as goal
 pub byte-requires : goal.byte-requires
 byte-requires g c =
     let there : IsSome (text_of c.args.keys.now.key) = search rules in
-    (version_of_header c.args.keys.now.key c.header-header.result, held_version c.args.keys.now.key (memory_image c.args.cells.now 1) c.header-header.result c.header-header.ensures.held c.header-header.ensures.kind, there)
+    (version_of_header c.args.keys.now.key c.header_at-header.result.now, held_version c.args.keys.now.key (memory_image c.args.cells.now 1) c.header_at-header.result.now c.header_at-header.ensures.held c.header_at-header.ensures.kind, there)

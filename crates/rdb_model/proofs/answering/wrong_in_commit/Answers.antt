@@ -49,3 +49,7 @@ returns c =
       made = λ objects have. subst (λ l. HasMade (objects ++ made_in l) c.loop-place.made) (whole ∙ c.as_slice-operations.ensures) (so.objects objects have);
       classes = so.classes;
     }
+
+pub returns-in_err-again-clause-classes : goal.returns-in_err-again-clause-classes
+returns-in_err-again-clause-classes c =
+    ap length c.in_ok-answer.ensures.next ∙ answer_classes c.args.schema.now c.loop-place.db c.index-operations-place.result.0 ∙ c.loop-place.invariant.classes

@@ -13,7 +13,7 @@ apply-requires c =
     record {
       fits = reads_fit c.args.schema.now d.0 fit;
       classes = ap length c.loop-place.invariant.same ∙ c.requires.classes;
-      few_indexes = c.requires.few_indexes;
+      is_schema = c.requires.is_schema;
     }
 
 pub loop-place-preserved : goal.loop-place-preserved

@@ -16,7 +16,7 @@ loop-place-init c =
     let places = get_or_read readers 0 c.index.result.now within c.index.ensures [] in
     record {
       judged = judged_first c.args.schema.now c.args.entries.now c.judge_reads.new.db c.new-made.result readers c.in_ok-best.best
-          (c.in_ok-best.ensures.same ∙ c.in_ok-db.ensures) c.new-made.ensures.empty c.in_ok-readers.ensures
+          (c.in_ok-best.ensures.same ∙ c.in_ok-db.ensures) c.new-made.ensures.empty c.requires.fits c.in_ok-readers.ensures
           (c.in_ok-best.ensures.earliest ∙ ap₂ (λ d p. earliest_read c.args.schema.now d c.args.entries.now None p) (sym c.in_ok-best.ensures.same) places);
       classes = ap length (c.in_ok-best.ensures.same ∙ c.in_ok-db.ensures) ∙ length-replicate (length c.args.schema.now.classes) [];
     }
@@ -27,7 +27,7 @@ wrong_in_commit-requires c =
     let e = c.index-entries-place.result in
     let fit : FitsEntry c.args.schema.now e = subst (FitsEntry c.args.schema.now) (sym c.index-entries-place.is) (c.requires.fits c.loop-place.place e c.loop-place-test.true) in
     let parts = fits_commit c.args.schema.now e c.in-Some.done.now fit (sym c.in-Some.ensures) in
-    record { fits = parts.0; few = parts.1; classes = c.loop-place.invariant.classes; few_indexes = c.requires.few_indexes }
+    record { fits = parts.0; few = parts.1; classes = c.loop-place.invariant.classes; is_schema = c.requires.is_schema }
 
 pub overflow_add-seen : goal.overflow_add-seen
 overflow_add-seen c =
@@ -65,7 +65,7 @@ loop-place-preserved c =
           let few = commit_within entries i c.loop-place.seen e w.in-Some.done.now so.judged.counted at (sym w.in-Some.ensures) in
           let within : c.loop-place.seen + 1 < length readers = omega arith in
           rw (w.db-is, w.made-is, w.seen-is, w.best-is) (record {
-            judged = judged_next so.judged c.in_ok-readers.ensures at (sym w.in-Some.ensures) told.wrong told.next told.made last.same w.earlier_of-found.ensures (get_or_read readers (c.loop-place.seen + 1) w.index-in-Some.result.now within w.index-in-Some.ensures []) last.earliest;
+            judged = judged_next so.judged c.requires.fits c.in_ok-readers.ensures at (sym w.in-Some.ensures) told.wrong told.next told.made last.same w.earlier_of-found.ensures (get_or_read readers (c.loop-place.seen + 1) w.index-in-Some.result.now within w.index-in-Some.ensures []) last.earliest;
             classes = ap length last.same ∙ told.classes ∙ so.classes;
           })
       | in_default w ↦

@@ -1,7 +1,11 @@
--- By recursion on the front.
-use Rattle.std.proofs.Common.{[]}
-use Rattle.rdb_model.proofs.LawsLemmas.{judged_prefix}
+-- Part by part.
+use Rattle.std.proofs.Common.{◌++◌}
+use Rattle.rdb_model.specs.declared.legality.Span.TheVariants as span
+use Rattle.rdb_model.proofs.PartLemmas.{law_from, legal_from, law_in_front}
 use Rattle.rdb_model.proofs.laws.legal_prefix.Goals as goal
 
 pub returns : goal.returns
-returns c = λ schema front back. judged_prefix schema [] front back
+returns c = record {
+  legal = λ schema front back legal. legal_from span.Journal schema front (law_in_front span.Journal schema front back (law_from span.Journal schema (front ++ back) legal));
+  law = law_in_front;
+}

@@ -5,4 +5,4 @@ use Rattle.rdb_model.proofs.legality.journal_fits.Given as goal
 
 -- each entry so far fits
 abbrev pub invariant-loop-entry : goal.invariant-loop-entry
-invariant-loop-entry l = (k : ℕ) (d : Entry) → k < l.entry-index → FitsEntry l.schema (get_or l.entry-items k d)
+invariant-loop-entry l = (k : ℕ) (d : Entry) → k < l.entry-index → FitsEntry l.schema (get_or l.entries k d)

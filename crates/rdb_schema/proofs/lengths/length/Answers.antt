@@ -5,5 +5,5 @@ use Rattle.rdb_schema.proofs.lengths.length.Goals as goal
 
 pub returns : goal.returns
 returns c =
-    let small = row_small c.args.schema.now c.requires.few_fields c.args.class c.args.row.now c.requires.holds in
+    let small = row_small c.args.schema.now c.requires.schema c.args.class c.args.row.now c.requires.holds in
     omega (arith, small, c.capped_length.ensures)

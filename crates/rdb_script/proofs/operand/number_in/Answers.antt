@@ -1,4 +1,4 @@
-use Rattle.rdb_schema.proofs.SpellingLemmas.{digits_are_text}
+use Rattle.rdb_literals.proofs.SpellingLemmas.{digits_are_text}
 use Rattle.rdb_script.proofs.operand.number_in.Goals as goal
 
 pub returns-in_err-text_of-clause-exact : goal.returns-in_err-text_of-clause-exact

@@ -1,4 +1,4 @@
-use Rattle.rdb_schema.proofs.SpellingLemmas.{none_passes}
+use Rattle.rdb_literals.proofs.SpellingLemmas.{none_passes}
 use Rattle.rdb_script.proofs.word.bytes_before_blank.Goals as goal
 
 pub returns-in-None-clause-count : goal.returns-in-None-clause-count

@@ -12,4 +12,4 @@ invariant_of-self c =
     let count : c.len.result ≡ length hs = omega arith in
     let within : c.bucket-head.result < length hs = omega arith in
     let at : c.bucket-head.result ≡ bucket_of (length hs) c.in-Some-Some.number = subst (λ (k : ℕ). c.bucket-head.result ≡ bucket_of k c.in-Some-Some.number) count c.bucket-head.ensures.bucket in
-    (omega arith, omega arith, omega arith, omega (arith, length-set hs c.bucket-head.result c.in-Some-Some.link), popped_chain c.pop.new.self.items c.pop-2.new.self.items hs s.numbers.items s.links.items c.in-Some-Some.number c.bucket-head.result c.in-Some-Some.link old.4 at within c.in-Some-Some.ensures.items c.in-Some-Some.ensures'.items)
+    (omega (arith, length-set hs c.bucket-head.result c.in-Some-Some.link), omega (arith, length-set hs c.bucket-head.result c.in-Some-Some.link), omega (arith, length-set hs c.bucket-head.result c.in-Some-Some.link), popped_chain c.pop.new.self.items c.pop-2.new.self.items hs s.numbers.items s.links.items c.in-Some-Some.number c.bucket-head.result c.in-Some-Some.link old.3 at within c.in-Some-Some.ensures.items c.in-Some-Some.ensures'.items)

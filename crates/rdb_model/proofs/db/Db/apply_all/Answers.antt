@@ -1,5 +1,5 @@
 -- One operation more.
-use Rattle.std.proofs.Common.{◌≡◌, ◌+◌, ◌<◌, length, take, drop, sym, ap, ◌∙◌, arith}
+use Rattle.std.proofs.Common.{◌+◌, ◌<◌, length, drop, sym, ap, ◌∙◌, arith}
 use Rattle.rdb_model.specs.Answer.{answer}
 use Rattle.rdb_model.specs.Story.{after}
 use Rattle.rdb_model.proofs.AnsweringLemmas.{after_more, after_taken, answer_classes}

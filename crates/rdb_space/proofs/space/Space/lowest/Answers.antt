@@ -1,15 +1,15 @@
-use Rattle.std.proofs.Common.{List, subst, arith}
+use Rattle.std.proofs.Common.{List, subst, ap, arith}
 use Rattle.rdb_space.specs.declared.page.PageState.{PageState}
-use Rattle.rdb_space.specs.Space.{IsLowestUnowned, AllOwned}
+use Rattle.rdb_space.specs.Space.{PageTable, IsLowestUnowned, AllOwned}
 use Rattle.rdb_space.proofs.SpaceLemmas.{lowest_unowned, all_owned}
 use Rattle.rdb_space.proofs.space.Space.lowest.Goals as goal
 
 pub returns-then-self-len-clause-found : goal.returns-then-self-len-clause-found
 returns-then-self-len-clause-found c =
     let s = c.self.inside in
-    subst (λ (ps : List PageState). IsLowestUnowned ps s.granted) c.self.view_is (lowest_unowned s.pages.items s.granted c.self.invariant.1 (omega arith))
+    subst (λ (t : PageTable). IsLowestUnowned t.pages s.granted) c.self.view_is (lowest_unowned s.pages.items s.granted c.self.invariant.owners (omega arith))
 
 pub returns-else-self-len-clause-none : goal.returns-else-self-len-clause-none
 returns-else-self-len-clause-none c =
     let s = c.self.inside in
-    subst AllOwned c.self.view_is (all_owned s.pages.items s.granted c.self.invariant.1 (omega arith))
+    subst (λ (t : PageTable). AllOwned t.pages) c.self.view_is (all_owned s.pages.items s.granted c.self.invariant.owners (omega arith))

@@ -73,7 +73,7 @@ returns-clause-pass g c =
       based = told.3.1 ∙ k.based;
       boarded = ap (λ (m : Mine g.row.T.Denot). m.0.boarded) told.2 ∙ k.boarded;
       some_share = omega (arith, k.some_share, c.saturating_add-pass.ensures);
-      shares = omega (arith, shares, k.shares, l.shares, c.saturating_add-pass.ensures);
+      shares = omega (arith, shares, k.shares, l.shares, told.7, c.saturating_add-pass.ensures);
       fits = fits_as c.args.pass.now.ticket c.args.pass.now.place.me c.settle-pass.new.place.me (sym (ap (λ (m : Mine g.row.T.Denot). m.1) told.2)) (sym (ap (λ (m : Mine g.row.T.Denot). m.0.stand) told.2)) k.fits;
       inside = λ is. absurd (cc (is, ap (λ (m : Mine g.row.T.Denot). is_inside m.0.stand) told.2, c.requires.away));
     }

@@ -1,4 +1,4 @@
-use Rattle.std.proofs.Common.{◌≡◌, List, ℕ, sym, ◌∙◌, ap, subst}
+use Rattle.std.proofs.Common.{arith, ◌≡◌, List, ℕ, sym, ◌∙◌, ap, subst}
 use Rattle.rdb_turn.specs.Rule.{OwnsSlot}
 use Rattle.rdb_turn.specs.Steps.{Mine, only, without}
 use Rattle.rdb_turn.proofs.Parts.{owns_cut, owns_without}
@@ -15,3 +15,6 @@ returns-clause-others g c =
     let v = c.args.pass.now.place.me.0 in
     let owned : c.cut_off-place.new.place.me.0.owned ≡ without c.args.client v.owned = ap (λ (m : Mine g.row.T.Denot). m.0.owned) c.cut_off-place.ensures.kept ∙ (ap (λ (m : Mine g.row.T.Denot). without m.0.parting m.0.owned) c.mark.ensures.marked ∙ ap (λ (k : ℕ). without k v.owned) c.from.ensures) in
     λ slot ne h. subst (λ (ps : List (ℕ × g.row.T.Denot)). OwnsSlot ps slot) (sym owned) (owns_without c.args.client v.owned slot ne h)
+
+pub returns-then-pass-lt2-clause-indivisible : goal.returns-then-pass-lt2-clause-indivisible
+returns-then-pass-lt2-clause-indivisible g c = omega (arith, c.requires.pass.shares, c.if-pass-lt2.true)

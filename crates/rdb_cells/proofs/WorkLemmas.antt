@@ -1,0 +1,182 @@
+-- Work on a plan: what a put and a take leave of the cells that can be taken, and of what the plan says.
+use Rattle.std.proofs.Common.{◌≡◌, ◌≢◌, ◌<◌, ◌≤◌, ◌+◌, ◌⊎◌, ◌++◌, zero, suc, ℕ, List, [], ◌∷◌, length, length-append, cond, slice_get, slice_index, Option, Some, None, is_some, Bool, true, false, inl, inr, refl, sym, ap, subst, ◌∙◌, arith, rules, nat_cmp}
+use Rattle.std.proofs.lemmas.Bool.{cases_lt, false≢true}
+use Rattle.std.proofs.lemmas.List.{length-map}
+use Rattle.std.proofs.lemmas.Map.Keys.{sorted_tail, below_from_sorted}
+use Rattle.std.proofs.Permutation.{which}
+use Rattle.std.specs.List.Sorted.{IsStrictlySortedBy}
+use Rattle.rdb_pages.specs.declared.cell.Cell.{Cell}
+use Rattle.rdb_pages.specs.declared.cell.CellRef.{CellRef}
+use Rattle.rdb_pages.specs.Pages.{zero_cell}
+use Rattle.rdb_cells.specs.declared.pairs.Pair.{Pair}
+use Rattle.rdb_cells.specs.declared.cells.Cells.{Ghosts}
+use Rattle.rdb_cells.specs.Images.{Writes}
+use Rattle.rdb_cells.specs.Overlays.{Laid}
+use Rattle.rdb_cells.specs.Records.{names, content, with_content, replaced, first_of, with_put}
+use Rattle.rdb_cells.specs.Untaken.{IsUntaken, IsNextUntaken, HasUntaken}
+use Rattle.rdb_cells.specs.Work.{Work, work, reading, IsBlank, IsLeft, HasLeft, TakesAtMost, TakesNone}
+use Rattle.rdb_cells.proofs.PairLemmas.{put_writes, content_unnamed, content_named, named_when_content}
+
+first_none : (o : Option Cell) → first_of o None ≡ o
+first_none None = refl
+first_none (Some c) = refl
+
+put_content_here : (ps : List Pair) (p : Pair) → content (with_put ps p) p.at.number ≡ Some p.cell
+put_content_here ps p = sym (first_none (content (with_put ps p) p.at.number)) ∙ (put_writes ps p (λ n. None)).here
+
+put_content_elsewhere : (ps : List Pair) (p : Pair) (n : ℕ) → n ≢ p.at.number → content (with_put ps p) n ≡ content ps n
+put_content_elsewhere ps p n apart = sym (first_none (content (with_put ps p) n)) ∙ (put_writes ps p (λ n. None)).elsewhere n apart ∙ first_none (content ps n)
+
+named_or_not : (b : Bool) → (b ≡ true) ⊎ (b ≡ false)
+named_or_not true = inl refl
+named_or_not false = inr refl
+
+content_there : (ps : List Pair) (n : ℕ) (o : Option Cell) → content ps n ≡ o → names ps n ≡ true → (cell : Cell) × (o ≡ Some cell)
+content_there ps n None is named = absurd (false≢true (subst (λ (o : Option Cell). is_some o ≡ true) is (content_named ps n named)))
+content_there ps n (Some cell) is named = (cell, refl)
+
+still_named : (ps : List Pair) (p : Pair) (n : ℕ) → names ps n ≡ true → names (with_put ps p) n ≡ true
+still_named ps p n named = elim (which n p.at.number) [
+  | inl same ↦ named_when_content (with_put ps p) n p.cell (ap (content (with_put ps p)) same ∙ put_content_here ps p)
+  | inr apart ↦
+      let there = content_there ps n (content ps n) refl named in
+      named_when_content (with_put ps p) n there.0 (put_content_elsewhere ps p n apart ∙ there.1)
+]
+
+unnamed_before : (ps : List Pair) (p : Pair) (n : ℕ) → names (with_put ps p) n ≡ false → names ps n ≡ false
+unnamed_before ps p n unnamed = elim (named_or_not (names ps n)) [
+  | inl named ↦ absurd (false≢true (sym unnamed ∙ still_named ps p n named))
+  | inr e ↦ e
+]
+
+unnamed_still : (ps : List Pair) (p : Pair) (n : ℕ) → n ≢ p.at.number → names ps n ≡ false → names (with_put ps p) n ≡ false
+unnamed_still ps p n apart unnamed = elim (named_or_not (names (with_put ps p) n)) [
+  | inl named ↦
+      let there = content_there (with_put ps p) n (content (with_put ps p) n) refl named in
+      absurd (false≢true (sym unnamed ∙ named_when_content ps n there.0 (sym (put_content_elsewhere ps p n apart) ∙ there.1)))
+  | inr e ↦ e
+]
+
+-- the work after a put, and after a take
+abbrev pub put_work : Work → CellRef → Cell → Work
+put_work w at cell = record w { pairs = with_put w.pairs (record { at = at; cell = cell }) }
+
+abbrev pub take_work : Work → CellRef → Work
+take_work w at = record w { taken = at.number }
+
+pub put_reads : (w : Work) (at : CellRef) (cell : Cell) → Writes (reading w) (reading (put_work w at cell)) at.number cell
+put_reads w at cell = put_writes w.pairs (record { at = at; cell = cell }) w.below
+
+-- the plan says what it said of every other cell
+pub put_says : (w : Work) (at : CellRef) (cell : Cell) (n : ℕ) → (content (put_work w at cell).pairs n ≡ content w.pairs n) ⊎ (n ≡ at.number)
+put_says w at cell n = elim (which n at.number) [
+  | inl same ↦ inr same
+  | inr apart ↦ inl (put_content_elsewhere w.pairs (record { at = at; cell = cell }) n apart)
+]
+
+-- a cell that can be taken reads as a free one
+pub left_blank : (w : Work) (n : ℕ) → IsLeft w n → IsBlank w n
+left_blank w n left = record {
+  zero = ap (λ (o : Option Cell). first_of o (w.below n)) (content_unnamed w.pairs n left.unplanned) ∙ left.free.zero;
+  class = left.free.class;
+  page = left.free.page;
+}
+
+-- a put to a cell that can't be taken leaves those that can
+pub put_takes_none : (w : Work) (at : CellRef) (cell : Cell) → (¬ IsLeft w at.number) → TakesNone w (put_work w at cell)
+put_takes_none w at cell spent n = (
+  λ left. record { above = left.above; free = left.free; unplanned = unnamed_before w.pairs (record { at = at; cell = cell }) n left.unplanned },
+  λ left. record {
+    above = left.above;
+    free = left.free;
+    unplanned = unnamed_still w.pairs (record { at = at; cell = cell }) n (λ same. spent (subst (IsLeft w) same left)) left.unplanned;
+  },
+)
+
+pub none_then : (w0 w1 w2 : Work) → TakesNone w0 w1 → TakesNone w1 w2 → TakesNone w0 w2
+none_then w0 w1 w2 first second n = (λ left. (first n).0 ((second n).0 left), λ left. (second n).1 ((first n).1 left))
+
+pub none_at_most : (w0 w1 : Work) → TakesNone w0 w1 → TakesAtMost 0 w0 w1
+none_at_most w0 w1 none = record {
+  enough = λ count has. record {
+    cells = has.cells;
+    count = (let many = has.count in omega arith);
+    ascending = has.ascending;
+    untaken = λ i n at. (none n).1 (has.untaken i n at);
+  };
+  no_more = λ n left. (none n).0 left;
+}
+
+pub at_most_then : (a b : ℕ) (w0 w1 w2 : Work) → TakesAtMost a w0 w1 → TakesAtMost b w1 w2 → TakesAtMost (a + b) w0 w2
+at_most_then a b w0 w1 w2 first second = record {
+  enough = λ count has. second.enough count (first.enough (count + b) (let same : count + (a + b) ≡ count + b + a = omega arith in subst (HasLeft w0) same has));
+  no_more = λ n left. first.no_more n (second.no_more n left);
+}
+
+got_at : (xs : List ℕ) (i n : ℕ) → slice_get xs i ≡ Some n → (i < length xs) × (slice_index xs i ≡ n)
+got_at [] i n e = cc
+got_at (x ∷ xs) zero n e = (omega arith, (let same : x ≡ n = search rules in same))
+got_at (x ∷ xs) (suc i) n e = let rest = got_at xs i n e in ((let below = rest.0 in omega arith), rest.1)
+
+sorted_above : (x : ℕ) (xs : List ℕ) (i n : ℕ) → IsStrictlySortedBy nat_cmp (x ∷ xs) → slice_get xs i ≡ Some n → x < n
+sorted_above x xs i n sorted at =
+    let got = got_at xs i n at in
+    let below = got.0 in
+    subst (λ (k : ℕ). x < k) got.1 (below_from_sorted (x ∷ xs) 0 (suc i) 0 sorted (omega arith) (omega arith))
+
+-- taking the lowest cell leaves those above it
+module _ (w : Work) (at : CellRef) (lowest : IsNextUntaken w.pairs w.below w.class_of w.class w.taken at.number) where
+  above_left : (n : ℕ) → IsLeft w n → at.number < n → IsLeft (take_work w at) n
+  above_left n left above = record { above = above; free = left.free; unplanned = left.unplanned }
+
+  those_above : (count : ℕ) (cells : List ℕ) → length cells ≡ count + 1 → IsStrictlySortedBy nat_cmp cells → ((i n : ℕ) → slice_get cells i ≡ Some n → IsLeft w n) → HasLeft (take_work w at) count
+  those_above count [] many sorted all = absurd (omega arith)
+  those_above count (x ∷ xs) many sorted all = record {
+    cells = xs;
+    count = omega arith;
+    ascending = sorted_tail nat_cmp x xs sorted;
+    untaken = λ i n got. elim (cases_lt x at.number) [
+      | inl sooner ↦ absurd (lowest.lowest x sooner (all 0 x refl))
+      | inr later ↦ above_left n (all (suc i) n got) (let above = sorted_above x xs i n sorted got in omega arith)
+    ];
+  }
+
+  pub take_one : TakesAtMost 1 w (take_work w at)
+  take_one = record {
+    enough = λ count has. those_above count has.cells has.count has.ascending has.untaken;
+    no_more = λ n left. record {
+      above = (let taken = lowest.untaken.above in let above = left.above in omega arith);
+      free = left.free;
+      unplanned = left.unplanned;
+    };
+  }
+
+  -- what was taken can't be taken again
+  pub taken_spent : ¬ IsLeft (take_work w at) at.number
+  taken_spent left = let above = left.above in absurd (omega arith)
+
+-- who can take some cells can take one
+pub one_left : (w : Work) → HasLeft w 1 → (n : ℕ) × IsLeft w n
+one_left w has = first has.cells has.count has.untaken
+  where
+    first : (cells : List ℕ) → length cells ≡ 1 → ((i n : ℕ) → slice_get cells i ≡ Some n → IsLeft w n) → (n : ℕ) × IsLeft w n
+    first [] count all = absurd (omega arith)
+    first (n ∷ ns) count all = (n, all 0 n refl)
+
+-- a plan grows by a pair at most
+pub put_longer : (ps : List Pair) (p : Pair) → length (with_put ps p) ≤ length ps + 1
+put_longer ps p =
+    let appended = length-append ps (p ∷ []) in
+    let replaced_length = length-map ps (with_content p.at.number p.cell) in
+    elim (names ps p.at.number) as (λ (b : Bool). length (cond b (replaced ps p.at.number p.cell) (ps ++ p ∷ [])) ≤ length ps + 1) [
+      | true ↦ omega arith
+      | false ↦ omega arith
+    ]
+
+-- the work of an overlay after a put, and after a take
+module _ {X : Type 0} (cells : Ghosts X) where
+  pub put_is : (o now : Laid X) (w : Work) (at : CellRef) (cell : Cell) → work cells o ≡ w → now ≡ record o { plan = record o.plan { pairs = with_put o.plan.pairs (record { at = at; cell = cell }) } } → work cells now ≡ put_work w at cell
+  put_is o now w at cell was is = ap (work cells) is ∙ ap (λ (v : Work). put_work v at cell) was
+
+  pub take_is : (o now : Laid X) (w : Work) (at : CellRef) → work cells o ≡ w → now ≡ record o { taken = at } → work cells now ≡ take_work w at
+  take_is o now w at was is = ap (work cells) is ∙ ap (λ (v : Work). take_work v at) was

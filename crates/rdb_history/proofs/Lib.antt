@@ -1,0 +1,9 @@
+pub mod ListLemmas
+pub mod RowLemmas
+pub mod ObjectLemmas
+pub mod IndexLemmas
+pub mod TakingUp
+pub mod KeptLemmas
+pub mod FoldLemmas
+pub mod RowLaws
+pub mod TouchingLemmas

@@ -1,0 +1,11 @@
+pub mod Appends
+pub mod Escapes
+pub mod BlankLemmas
+pub mod DecimalLemmas
+pub mod ListLemmas
+pub mod NumberLemmas
+pub mod PrintedLemmas
+pub mod PrintedValueLemmas
+pub mod RectLemmas
+pub mod SpellingLemmas
+pub mod ValueLemmas

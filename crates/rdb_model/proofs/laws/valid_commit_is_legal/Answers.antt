@@ -1,6 +1,0 @@
--- Its story still runs after all commits, since what it makes was written by none.
-use Rattle.rdb_model.proofs.CommitSound.{commit_is_legal}
-use Rattle.rdb_model.proofs.laws.valid_commit_is_legal.Goals as goal
-
-pub returns : goal.returns
-returns c = commit_is_legal

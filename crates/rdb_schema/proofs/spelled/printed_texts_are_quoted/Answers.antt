@@ -1,8 +1,0 @@
-use Rattle.std.proofs.Common.{refl}
-use Rattle.std.specs.Prelude.{flat_map}
-use Rattle.rdb_schema.specs.Printed.{escaped}
-use Rattle.rdb_schema.proofs.PrintedLemmas.{printed_spelled}
-use Rattle.rdb_schema.proofs.spelled.printed_texts_are_quoted.Goals as goal
-
-pub returns : goal.returns
-returns c = λ words utf8. (flat_map escaped words, refl, printed_spelled words, utf8)

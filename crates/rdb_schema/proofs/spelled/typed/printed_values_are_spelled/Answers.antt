@@ -1,5 +1,0 @@
-use Rattle.rdb_schema.proofs.PrintedValueLemmas.{value_printed}
-use Rattle.rdb_schema.proofs.spelled.typed.printed_values_are_spelled.Goals as goal
-
-pub returns : goal.returns
-returns c = λ schema ty value held proper. (value_printed schema ty value held proper, held)
