@@ -139,6 +139,10 @@ behind (PastGap ∷ steps) = behind steps
 behind (PastTree n element below ∷ steps) = behind steps
 behind (Below n element others ∷ steps) = grown others ++ behind steps
 
+-- the cells of the nodes around trees with these roots
+abbrev pub around : {A : Type 0} → List (Step A) → List ℕ → List ℕ
+around steps rs = numbers (ahead steps rs) ++ numbers (behind steps)
+
 -- how many nodes the longest way down has
 abbrev pub depth : {A : Type 0} → Forest A → ℕ
 depth End = 0

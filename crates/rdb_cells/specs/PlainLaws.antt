@@ -6,12 +6,11 @@ use native.Mathlib.Nat.{not-suc-le-zero, le_intro, two-mul}
 use Rattle.rdb_pages.specs.declared.cell.CellRef.{CellRef}
 use Rattle.rdb_cells.specs.declared.kind.Kind.TheVariants as kind
 use Rattle.rdb_cells.specs.HeadFormat.{index_head_cell, empty_index_head}
-use Rattle.rdb_cells.specs.Images.{Image}
 use Rattle.rdb_cells.specs.Index.{StartsEmpty, ListsOnce, HasIndexCells, HasFewNodes, RestsOnNodes}
 use Rattle.rdb_cells.specs.Keys.{Sayings, Version, SaySame, ListsVersions}
 use Rattle.rdb_cells.specs.Links.{IsAmong, AreOnce, SameOn, Placed, elements, segment, numbers}
 use Rattle.rdb_cells.specs.LinkLaws.{still_chain, node_of}
-use Rattle.rdb_cells.specs.PlainList.{IsEntry, IsPlainList, plain_nature}
+use Rattle.rdb_cells.specs.PlainList.{IsEntry, plain_nature}
 use Rattle.rdb_cells.specs.Words.{HasKind, no_ref}
 
 -- keys that say the same of versions say the same of their lists

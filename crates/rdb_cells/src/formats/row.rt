@@ -89,7 +89,7 @@ impl RowCell {
         let mut bytes = [0; ROW_CELL_BYTES];
         LittleEndian::write_u32_into(words, &mut bytes);
         RowCell {
-            next: RowCell::next_in(cell),
+            next: high_ref(cell),
             bytes,
         }
     }

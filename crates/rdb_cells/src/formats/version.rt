@@ -17,7 +17,7 @@ ghost use Rattle.rdb_cells.specs.VersionFormat.{IsHeader, header_cell, header_in
 ghost use Rattle.rdb_cells.specs.VersionFormat.{with_older, with_stamp};
 ghost use Rattle.rdb_cells.specs.Words.{IsOfKind, kind_number};
 
-use crate::formats::words::{first_word, high_ref, low_half, upper_half, wide};
+use crate::formats::words::{first_word, high_is_small, high_ref, low_half, upper_half, wide};
 use crate::kind::Kind;
 use rdb_base::identity::{ConnId, Stamp, TxId};
 use rdb_pages::{Cell, CellRef};
@@ -170,6 +170,7 @@ impl VersionHeader {
         ensures proper { IsHeader (header_in result) }
         ensures whole { (h : VersionHeader) → IsHeader h → cell.now ≡ header_cell h → result ≡ header_cell (with_stamp h stamp) }
     {
+        high_is_small(cell);
         let stamp = stamp_words(stamp);
         let mut words = cell.words;
         words[6] = stamp.mark;
