@@ -38,8 +38,6 @@ same_or_apart a b = by_test (eqb a b) refl
 
 -- Cells of a kind
 
-
-
 pub is_of_kind : (of : Kind) (c : Cell) → IsOfKind c of → of_kind of (Some c) ≡ Some c
 is_of_kind of c is = ap (λ (b : Bool). if b then Some c else None) (eq-eqb (kind_number c) (number_of of) is)
 

@@ -2,6 +2,7 @@ pub mod Rows
 pub mod Versions
 pub mod Plans
 pub mod Spots
-pub mod Places
 pub mod RowKeys
 pub mod KeyLaws
+pub mod Places
+pub mod RowSpots

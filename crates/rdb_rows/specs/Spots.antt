@@ -65,3 +65,17 @@ abbrev pub LeadsElements : Image → Spot → ElementType → ℕ → Spot → T
 LeadsElements image spot of many behind =
     (elements : List Element) (rest : List ℕ) → length elements ≡ many → list_all (element_fits of) elements ≡ true
     → Stand image spot (flat_map (element_bytes of) elements ++ rest) → Stand image behind rest
+
+-- a leaf of the type begins there
+abbrev pub HasLeaf : Image → Spot → FieldType → Type 0
+HasLeaf image spot ty = (l : Leaf) × BeginsLeaf image spot ty l
+
+-- a text begins there: its length in one byte, and its bytes
+pub record HasText (image : Image) (spot : Spot) : Type 0 where
+  pub words : List ℕ
+  pub rest : List ℕ
+  pub stand : Stand image spot (length words ∷ (words ++ rest))
+
+-- whatever text begins there, this holds
+abbrev pub ForText : Image → Spot → (List ℕ → Type 0) → Type 0
+ForText image spot Holds = (words rest : List ℕ) → Stand image spot (length words ∷ (words ++ rest)) → Holds words

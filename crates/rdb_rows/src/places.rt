@@ -63,8 +63,7 @@ fn value_size(ty: &ValueType) -> Option<usize>
 }
 
 /// Returns how many bytes behind an offset the field after this one begins, where that is so many in every row.
-fn offset_behind(ty: &ValueType, offset: usize) -> Option<usize>
-{
+fn offset_behind(ty: &ValueType, offset: usize) -> Option<usize> {
     let Some(size) = value_size(ty) else {
         return None;
     };
