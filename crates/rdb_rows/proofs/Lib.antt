@@ -1,0 +1,5 @@
+pub mod Pairings
+pub mod Takings
+pub mod Parts
+pub mod Puttings
+pub mod Chains
