@@ -6,3 +6,4 @@ pub mod Chains
 pub mod Headers
 pub mod VersionLemmas
 pub mod VersionPlans
+pub mod SpotLemmas

@@ -1,6 +1,7 @@
 //! A place in a row in cells, from which bytes are read one after another. It reads cells, and takes no memory.
 ghost use Rattle.std.specs.Prelude.{◌≡◌, ◌<◌, ◌≤◌, ◌+◌, ◌^◌, ◌∷◌, ℕ, List, length, drop};
 ghost use Rattle.rdb_cells.specs.Images.{Image};
+ghost use Rattle.rdb_cells.specs.RowFormat.{row_in, row_cell_bytes};
 ghost use Rattle.rdb_access.specs.Walk.{number_from};
 ghost use Rattle.rdb_access.specs.Read.{rect_from, edge_from};
 ghost use Rattle.rdb_rows.specs.Spots.{Stand, HasBytes};
@@ -8,7 +9,7 @@ ghost use Rattle.rdb_rows.specs.Spots.{Stand, HasBytes};
 use byteorder::{ByteOrder, LittleEndian};
 use rdb_base::value::Rect;
 use rdb_cells::{Cells, ROW_CELL_BYTES, RowCell};
-use rdb_pages::CellRef;
+use rdb_pages::{Cell, CellRef};
 
 /// So many bytes behind the first one of a row cell, and maybe in one of the cells after it.
 #[derive(Clone, Copy, Debug)]
@@ -35,6 +36,13 @@ pub(crate) fn skip(spot: Spot, many: usize) -> Spot
     }
 }
 
+/// Says how many bytes of a row stand in one cell. It does nothing.
+fn is_whole(cell: &Cell)
+    ensures { length (row_in cell.now).bytes ≡ row_cell_bytes }
+{
+    let _words = cell.words;
+}
+
 /// Returns the same spot, by the cell in which its next byte stands.
 fn settle<C: Cells>(cells: &C, spot: Spot) -> Spot
     requires { HasBytes (C.image cells.now) spot 1 }
@@ -43,8 +51,10 @@ fn settle<C: Cells>(cells: &C, spot: Spot) -> Spot
 {
     let mut settled = spot;
     while settled.place >= ROW_CELL_BYTES {
+        let cell = cells.read(settled.cell);
+        is_whole(cell);
         settled = Spot {
-            cell: RowCell::next_in(cells.read(settled.cell)),
+            cell: RowCell::next_in(cell),
             place: settled.place - ROW_CELL_BYTES,
         };
     }
@@ -58,7 +68,9 @@ pub(crate) fn next_byte<C: Cells>(cells: &C, spot: &mut Spot) -> u8
         → (result ≡ byte) × Stand (C.image cells.now) spot.new rest }
 {
     let settled = settle(cells, *spot);
-    let byte = RowCell::byte_in(cells.read(settled.cell), settled.place);
+    let cell = cells.read(settled.cell);
+    is_whole(cell);
+    let byte = RowCell::byte_in(cell, settled.place);
     *spot = skip(settled, 1);
     byte
 }
