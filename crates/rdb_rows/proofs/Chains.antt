@@ -219,15 +219,15 @@ module _ (image : Image) (chain : List (Placed (List ℕ))) (bytes read : List �
       let rest : List ℕ = drop (length bytes - left) bytes in
       let more : cells_for left ≡ suc (cells_for (left - min left 60)) = omega arith in
       let both : elements (there.place ∷ there.rest) ≡ filled_up (take 60 rest) ∷ parts (drop 60 rest) (cells_for (left - min left 60)) =
-          ap (λ (ps : List (Placed (List ℕ))). elements ps) (sym there.is) ∙ is.rest ∙ ap (parts rest) more in
+      ap (λ (ps : List (Placed (List ℕ))). elements ps) (sym there.is) ∙ is.rest ∙ ap (parts rest) more in
       let split = first_element there.place there.rest (filled_up (take 60 rest)) (parts (drop 60 rest) (cells_for (left - min left 60))) both in
       let element : part.bytes ≡ filled_up (take 60 rest) = ap (λ (r : RowCell). r.bytes) part_is ∙ ap (λ (c : Cell). (row_in c).bytes) cells ∙ told.0 ∙ split.0 in
       let long : length rest ≡ left = length-drop (length bytes - left) bytes ∙ (omega arith) in
       let front : length (take 60 rest) ≡ min 60 (length rest) = length-take 60 rest in
       let taken : take (min left 60) part.bytes ≡ take (min left 60) rest =
-          ap (λ (xs : List ℕ). take (min left 60) xs) element
-          ∙ take-append-le (min left 60) (take 60 rest) (replicate (60 - length (take 60 rest)) 0) (omega arith)
-          ∙ take-take (min left 60) 60 rest (omega arith) in
+      ap (λ (xs : List ℕ). take (min left 60) xs) element
+      ∙ take-append-le (min left 60) (take 60 rest) (replicate (60 - length (take 60 rest)) 0) (omega arith)
+      ∙ take-take (min left 60) 60 rest (omega arith) in
       let sum : length bytes - (left - min left 60) ≡ length bytes - left + min left 60 = omega arith in
       record {
         front = is.front ++ there.place ∷ [];

@@ -39,7 +39,7 @@ header_back h is =
     let older : (2 + 256 * h.older.number) / 256 ≡ h.older.number = omega arith in
     let class : (h.class + 256 * flag + 65536) % 256 ≡ h.class = second_low h.class flag is.0 in
     let dead : ((h.class + 256 * flag + 65536) / 256 % 256 == 1) ≡ h.tombstone =
-        ap (λ (n : ℕ). n == 1) (second_flag h.class flag is.0 (flag_small h.tombstone)) ∙ flag_back h.tombstone in
+    ap (λ (n : ℕ). n == 1) (second_flag h.class flag is.0 (flag_small h.tombstone)) ∙ flag_back h.tombstone in
     let stamp = stamp_back h h.stamp refl in
     λ i. record {
       older = record { number = older i };

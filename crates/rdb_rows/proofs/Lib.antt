@@ -6,4 +6,4 @@ pub mod Chains
 pub mod Headers
 pub mod VersionLemmas
 pub mod VersionPlans
-pub mod SpotLemmas
+pub mod Rooms

@@ -74,10 +74,10 @@ content_once [] once = tt
 content_once (p ∷ ps) once = (
   ap (λ (b : Bool). option_map (λ (q : Pair). q.cell) (cond b (Some p) (find (λ (q : Pair). q.at.number == p.at.number) ps))) (eq-eqb p.at.number p.at.number refl),
   written_where (content ps) (content (p ∷ ps)) ps
-  (λ n within.
-    ap (λ (b : Bool). option_map (λ (q : Pair). q.cell) (cond b (Some p) (find (λ (q : Pair). q.at.number == n) ps)))
-    (ne_eqb p.at.number n (λ same. once.0 (subst (λ (m : ℕ). IsAmong (numbers_of ps) m) (sym same) within))))
-  (content_once ps once.1),
+      (λ n within.
+      ap (λ (b : Bool). option_map (λ (q : Pair). q.cell) (cond b (Some p) (find (λ (q : Pair). q.at.number == n) ps)))
+      (ne_eqb p.at.number n (λ same. once.0 (subst (λ (m : ℕ). IsAmong (numbers_of ps) m) (sym same) within))))
+      (content_once ps once.1),
 )
 
 -- a longer plan says what its new pairs say

@@ -77,19 +77,17 @@ parts_begin (suc n) bytes within = elim (cases_lt 60 (length bytes)) [
       let rest = parts_begin n (drop 60 bytes) (omega arith) in
       let whole : length (take 60 bytes) ≡ 60 = length-take-le 60 bytes (omega arith) in
       let none : filled_up (take 60 bytes) ≡ take 60 bytes =
-          ap (λ (m : ℕ). take 60 bytes ++ replicate (60 - m) 0) whole ∙ append-nil (take 60 bytes) in
-      (
+      ap (λ (m : ℕ). take 60 bytes ++ replicate (60 - m) 0) whole ∙ append-nil (take 60 bytes) in (
         rest.0,
         ap₂ (λ (xs ys : List ℕ). xs ++ ys) none rest.1
-        ∙ sym (append_assoc (take 60 bytes) (drop 60 bytes) rest.0)
-        ∙ ap (λ (xs : List ℕ). xs ++ rest.0) (take-append-drop 60 bytes),
+            ∙ sym (append_assoc (take 60 bytes) (drop 60 bytes) rest.0)
+            ∙ ap (λ (xs : List ℕ). xs ++ rest.0) (take-append-drop 60 bytes),
       )
   | inr shorter ↦
-      let all : take 60 bytes ≡ bytes = take_all 60 bytes shorter in
-      (
+      let all : take 60 bytes ≡ bytes = take_all 60 bytes shorter in (
         replicate (60 - length bytes) 0 ++ flat (parts (drop 60 bytes) n),
         ap (λ (xs : List ℕ). filled_up xs ++ flat (parts (drop 60 bytes) n)) all
-        ∙ append_assoc bytes (replicate (60 - length bytes) 0) (flat (parts (drop 60 bytes) n)),
+            ∙ append_assoc bytes (replicate (60 - length bytes) 0) (flat (parts (drop 60 bytes) n)),
       )
 ]
 

@@ -30,8 +30,7 @@ same_row a b long same = sym (bytes_again a) ∙ ap₂ (λ (n : ℕ) (ps : List 
 
 pub one_row : (image : Image) (first : ℕ) (a b cells others : List ℕ) → length a ≡ length b → HoldsRow image first a cells → HoldsRow image first b others → (a ≡ b) × (cells ≡ others)
 one_row image first a b cells others long x y =
-    let chain = one_chain IsPart part_one image x.chain y.chain (sym x.chained.begins ∙ y.chained.begins) x.chained.nodes.stand y.chained.nodes.stand in
-    (
+    let chain = one_chain IsPart part_one image x.chain y.chain (sym x.chained.begins ∙ y.chained.begins) x.chained.nodes.stand y.chained.nodes.stand in (
       same_row a b long (sym x.parts_are ∙ ap (λ (c : List (Placed (List ℕ))). elements c) chain ∙ y.parts_are),
       x.cells_are ∙ ap (λ (c : List (Placed (List ℕ))). numbers (segment c 0)) chain ∙ sym y.cells_are,
     )
@@ -99,15 +98,14 @@ label_in h = record { class = h.class; id = h.id; serial = h.serial; stamp = h.s
 pub one_version : (image : Image) (at : ℕ) (v w : Version) (cells others : List ℕ) → HoldsVersion image at v cells → HoldsVersion image at w others → (v ≡ w) × (cells ≡ others)
 one_version image at v w cells others x y =
     let headers : header_of v x.first ≡ header_of w y.first =
-        sym (header_back (header_of v x.first) x.labelled)
-        ∙ ap header_in (the_cell (image at) (header_cell (header_of v x.first)) (header_cell (header_of w y.first)) x.header y.header)
-        ∙ header_back (header_of w y.first) y.labelled in
+    sym (header_back (header_of v x.first) x.labelled)
+    ∙ ap header_in (the_cell (image at) (header_cell (header_of v x.first)) (header_cell (header_of w y.first)) x.header y.header)
+    ∙ header_back (header_of w y.first) y.labelled in
     let label : v.label ≡ w.label = ap label_in headers in
     let first : x.first.number ≡ y.first.number = ap (λ (h : VersionHeader). h.first_row.number) headers in
     let rows = one_row image y.first.number (bytes_in v.row) (bytes_in w.row) x.row_cells y.row_cells (ap (λ (h : VersionHeader). h.row_length) headers)
-        (subst (λ (n : ℕ). HoldsRow image n (bytes_in v.row) x.row_cells) first x.row) y.row in
-    let row : v.row ≡ w.row = rows_alike v.row w.row (ap (λ (h : VersionHeader). h.tombstone) headers) rows.0 in
-    (
+    (subst (λ (n : ℕ). HoldsRow image n (bytes_in v.row) x.row_cells) first x.row) y.row in
+    let row : v.row ≡ w.row = rows_alike v.row w.row (ap (λ (h : VersionHeader). h.tombstone) headers) rows.0 in (
       λ i. record { label = label i; row = row i },
       x.cells_are ∙ ap (λ (ns : List ℕ). at ∷ ns) rows.1 ∙ sym y.cells_are,
     )

@@ -131,8 +131,8 @@ module _ (w0 w1 : Work) (at first : ℕ) (bytes : List ℕ) (next : IsNextUntake
 
   header_fresh : names (part_pairs 0 puts.row_cells (row_parts bytes)) at ≡ false
   header_fresh = unnamed_when (part_pairs 0 puts.row_cells (row_parts bytes)) at (λ within.
-    (taken_once w0 (at ∷ puts.row_cells) both_lowest).0
-    (subst (λ (ns : List ℕ). IsAmong ns at) (part_numbers 0 puts.row_cells (row_parts bytes) (parts_match (record w0 { taken = at }) w1 first bytes puts)) within))
+      (taken_once w0 (at ∷ puts.row_cells) both_lowest).0
+      (subst (λ (ns : List ℕ). IsAmong ns at) (part_numbers 0 puts.row_cells (row_parts bytes) (parts_match (record w0 { taken = at }) w1 first bytes puts)) within))
 
   pub header_unnamed : names w1.pairs at ≡ false
   header_unnamed = ap (λ (u : Work). names u.pairs at) puts.planned ∙ unnamed_both w0.pairs (part_pairs 0 puts.row_cells (row_parts bytes)) at next.untaken.unplanned header_fresh
@@ -156,8 +156,8 @@ pub others_stay : (before after : Work) (at place : ℕ) (v w : Version) (cells 
 others_stay before after at place v w cells puts holds =
     version_rests (reading before) (reading after) place w cells
     (λ n within.
-      let apart : ¬ IsAmong (at ∷ puts.row_cells) n = λ taken. version_some (reading before) place w cells holds n within (left_blank before n (puts.left n taken)).zero in
-      ap₂ first_of (puts.elsewhere n apart) (ap (λ (u : Work). u.below n) puts.planned))
+    let apart : ¬ IsAmong (at ∷ puts.row_cells) n = λ taken. version_some (reading before) place w cells holds n within (left_blank before n (puts.left n taken)).zero in
+    ap₂ first_of (puts.elsewhere n apart) (ap (λ (u : Work). u.below n) puts.planned))
     holds
 
 -- Giving back

@@ -1,8 +1,3 @@
 pub mod Rows
 pub mod Versions
 pub mod Plans
-pub mod Spots
-pub mod RowKeys
-pub mod KeyLaws
-pub mod Places
-pub mod RowSpots

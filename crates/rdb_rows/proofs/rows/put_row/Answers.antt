@@ -69,11 +69,11 @@ loop-rest-preserved g c =
     let is = c.loop-rest.invariant.putting in
     let next = c.take-next.result in
     let cell : c.to_cell.result ≡ row_cell (record { next = next; bytes = filled_up (take 60 c.loop-rest.rest.now) }) =
-        c.to_cell.ensures.value ∙ ap row_cell c.holding.ensures.value ∙ ap (λ (part : List ℕ). row_cell (record { next = next; bytes = filled_up part })) c.split_at.ensures.front in
+    c.to_cell.ensures.value ∙ ap row_cell c.holding.ensures.value ∙ ap (λ (part : List ℕ). row_cell (record { next = next; bytes = filled_up part })) c.split_at.ensures.front in
     let taken = take_is g.C.Cells c.loop-rest.cells c.take-next.new.self w next refl c.take-next.ensures.taken in
     let put : work g.C.Cells c.put.new.self ≡ put_work (take_work w next) c.loop-rest.at (row_cell (record { next = next; bytes = filled_up (take 60 c.loop-rest.rest.now) })) =
-        put_is g.C.Cells c.take-next.new.self c.put.new.self (take_work w next) c.loop-rest.at c.to_cell.result taken c.put.ensures.plan
-        ∙ ap (put_work (take_work w next) c.loop-rest.at) cell in
+    put_is g.C.Cells c.take-next.new.self c.put.new.self (take_work w next) c.loop-rest.at c.to_cell.result taken c.put.ensures.plan
+    ∙ ap (put_work (take_work w next) c.loop-rest.at) cell in
     record {
       putting = subst (λ (rest : List ℕ). IsPutting w0 (work g.C.Cells c.put.new.self) c.args.bytes.now first next.number rest) (sym c.split_at.ensures.back)
           (putting_more w0 w c.args.bytes.now first c.loop-rest.at.number c.loop-rest.rest.now is next.number (work g.C.Cells c.put.new.self) c.loop-rest-test.true c.take-next.ensures.lowest put);
@@ -86,7 +86,7 @@ returns-clause-puts g c =
     let w0 = work g.C.Cells c.args.cells.now in
     let w = work g.C.Cells c.loop-rest.cells in
     let cell : c.to_cell-2.result ≡ row_cell (record { next = record { number = 0 }; bytes = filled_up c.loop-rest.rest.now }) =
-        c.to_cell-2.ensures.value ∙ ap row_cell c.holding-2.ensures.value in
+    c.to_cell-2.ensures.value ∙ ap row_cell c.holding-2.ensures.value in
     let put = put_is g.C.Cells c.loop-rest.cells c.put-2.new.self w c.loop-rest.at c.to_cell-2.result refl c.put-2.ensures.plan ∙ ap (put_work w c.loop-rest.at) cell in
     putting_ends w0 w c.args.bytes.now c.take-first.result.number c.loop-rest.at.number c.loop-rest.rest.now c.loop-rest.invariant.putting (work g.C.Cells c.put-2.new.self) c.loop-rest-test.false put
 

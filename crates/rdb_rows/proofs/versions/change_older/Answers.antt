@@ -39,5 +39,5 @@ returns-clause-takes_none g c =
     let has = c.requires.version in
     subst (TakesNone w) (sym put)
     (put_takes_none w at cell (λ left.
-      version_some (reading w) at.number has.version has.cells has.holds at.number
-      (subst (λ ns. IsAmong ns at.number) (sym has.holds.cells_are) (inl refl)) (left_blank w at.number left).zero))
+    version_some (reading w) at.number has.version has.cells has.holds at.number
+    (subst (λ ns. IsAmong ns at.number) (sym has.holds.cells_are) (inl refl)) (left_blank w at.number left).zero))

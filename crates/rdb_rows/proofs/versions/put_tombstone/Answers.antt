@@ -19,8 +19,8 @@ returns-clause-puts g c =
     let nothing = puts_nothing w1 [] refl in
     let taken = take_is g.C.Cells c.args.cells.now c.take-at.new.self w0 at refl c.take-at.ensures.taken in
     let put = put_is g.C.Cells c.take-at.new.self c.put.new.self w1 at c.to_cell.result taken c.put.ensures.plan
-        ∙ ap (put_work w1 at) (c.to_cell.ensures.value ∙ ap header_cell c.header_of.ensures)
-        ∙ header_put w0 w1 at.number 0 [] c.take-at.ensures.lowest nothing v refl at refl in
+    ∙ ap (put_work w1 at) (c.to_cell.ensures.value ∙ ap header_cell c.header_of.ensures)
+    ∙ header_put w0 w1 at.number 0 [] c.take-at.ensures.lowest nothing v refl at refl in
     puts_version w0 at.number v nothing.row_cells c.requires.label (omega arith) (λ place. omega arith) nothing.count (both_lowest w0 w1 at.number 0 [] c.take-at.ensures.lowest nothing) (work g.C.Cells c.put.new.self) put
 
 pub returns-clause-takes : goal.returns-clause-takes
@@ -32,6 +32,6 @@ returns-clause-takes g c =
     let nothing = puts_nothing w1 [] refl in
     let taken = take_is g.C.Cells c.args.cells.now c.take-at.new.self w0 at refl c.take-at.ensures.taken in
     let put = put_is g.C.Cells c.take-at.new.self c.put.new.self w1 at c.to_cell.result taken c.put.ensures.plan
-        ∙ ap (put_work w1 at) (c.to_cell.ensures.value ∙ ap header_cell c.header_of.ensures)
-        ∙ header_put w0 w1 at.number 0 [] c.take-at.ensures.lowest nothing v refl at refl in
+    ∙ ap (put_work w1 at) (c.to_cell.ensures.value ∙ ap header_cell c.header_of.ensures)
+    ∙ header_put w0 w1 at.number 0 [] c.take-at.ensures.lowest nothing v refl at refl in
     version_takes w0 at.number v nothing.row_cells c.requires.label (omega arith) (λ place. omega arith) nothing.count (both_lowest w0 w1 at.number 0 [] c.take-at.ensures.lowest nothing) (work g.C.Cells c.put.new.self) put

@@ -42,8 +42,8 @@ returns-clause-puts g c =
     let w2 = work g.C.Cells c.put_row-first_row.new.cells in
     let puts = subst (λ (u : Work). PutsRow u w2 first.number bytes) taken c.put_row-first_row.ensures.puts in
     let put = put_is g.C.Cells c.put_row-first_row.new.cells c.put.new.self w2 at c.to_cell.result refl c.put.ensures.plan
-        ∙ ap (put_work w2 at) (c.to_cell.ensures.value ∙ ap header_cell c.header_of-header.ensures)
-        ∙ header_put w0 w2 at.number first.number bytes c.take-at.ensures.lowest puts v refl at refl in
+    ∙ ap (put_work w2 at) (c.to_cell.ensures.value ∙ ap header_cell c.header_of-header.ensures)
+    ∙ header_put w0 w2 at.number first.number bytes c.take-at.ensures.lowest puts v refl at refl in
     puts_version w0 at.number v puts.row_cells c.requires.label c.requires.short (λ place. let fits = c.type_inv.bytes place in omega arith) puts.count
     (both_lowest w0 w2 at.number first.number bytes c.take-at.ensures.lowest puts) (work g.C.Cells c.put.new.self) put
 
