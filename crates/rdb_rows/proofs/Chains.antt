@@ -1,23 +1,22 @@
 -- The chain of a row's cells, gone through from its first.
-use Rattle.std.proofs.Common.{◌≡◌, ◌≢◌, ◌<◌, ◌≤◌, ◌+◌, ◌-◌, ◌*◌, ◌/◌, ◌%◌, ◌++◌, ◌⊎◌, zero, suc, ℕ, List, [], ◌∷◌, length, take, drop, map, replicate, get_or, min, Option, Some, inl, inr, refl, sym, ap, ap₂, subst, ◌∙◌, arith, append_assoc, length-append, length-drop, length-take}
+use Rattle.std.proofs.Common.{◌≡◌, ◌≢◌, ◌<◌, ◌≤◌, ◌+◌, ◌-◌, ◌++◌, zero, suc, ℕ, List, [], ◌∷◌, length, take, drop, map, replicate, get_or, min, Option, Some, inl, inr, refl, sym, ap, ap₂, subst, ◌∙◌, arith, append_assoc, length-append, length-drop, length-take}
 use Rattle.std.specs.Option.{option_map_or}
-use Rattle.std.proofs.Permutation.{which}
 use Rattle.std.proofs.lemmas.Bool.{cases_lt}
-use Rattle.std.proofs.lemmas.List.{append-nil, take_all, take-take, take-append-le, drop-drop, nil_from_length, length_push, length-take-le}
+use Rattle.std.proofs.lemmas.List.{append-nil, take_all, take-take, take-append-le, drop-drop, nil_from_length, length_push}
 use Rattle.rdb_pages.specs.declared.cell.Cell.{Cell}
 use Rattle.rdb_pages.specs.declared.cell.CellRef.{CellRef}
 use Rattle.rdb_pages.specs.Pages.{zero_cell}
 use Rattle.rdb_cells.specs.declared.formats.row.RowCell.{RowCell}
 use Rattle.rdb_cells.specs.Images.{Image}
-use Rattle.rdb_cells.specs.Links.{IsAmong, AreOnce, IsHeld, Stand, Placed, elements, start, segment, numbers, IsChain}
-use Rattle.rdb_cells.specs.Records.{content, first_of, with_put}
-use Rattle.rdb_cells.specs.RowFormat.{IsRowCell, filled_up, row_cell, row_in}
-use Rattle.rdb_cells.specs.Work.{Work, reading, IsLeft, TakesNone}
-use Rattle.rdb_cells.proofs.LinkLemmas.{among_either, among_front, among_back, once_without, stand_parts, segment_append, length_segment}
+use Rattle.rdb_cells.specs.Links.{IsAmong, AreOnce, Stand, Placed, elements, start, segment, numbers}
+use Rattle.rdb_cells.specs.Records.{content, first_of}
+use Rattle.rdb_cells.specs.RowFormat.{filled_up, row_in}
+use Rattle.rdb_cells.specs.Work.{Work, reading, IsLeft}
+use Rattle.rdb_cells.proofs.LinkLemmas.{among_either, among_front, among_back, once_without, stand_parts, segment_append}
 use Rattle.rdb_cells.proofs.RowFormatLemmas.{row_back}
-use Rattle.rdb_cells.proofs.WorkLemmas.{put_work, put_reads, put_says, left_blank, put_takes_none, none_then}
+use Rattle.rdb_cells.proofs.WorkLemmas.{put_work, put_reads, put_says, left_blank}
 use Rattle.rdb_rows.specs.Plans.{Clears}
-use Rattle.rdb_rows.specs.Rows.{cells_for, parts, row_parts, IsPart, HoldsRow}
+use Rattle.rdb_rows.specs.Rows.{cells_for, parts, IsPart, HoldsRow}
 use Rattle.rdb_rows.proofs.Parts.{count_parts}
 
 -- what a cell of a part is

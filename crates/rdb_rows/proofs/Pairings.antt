@@ -1,7 +1,6 @@
 -- What a longer plan says.
-use Rattle.std.proofs.Common.{◌≡◌, ◌≢◌, ◌||◌, ◌==◌, ◌++◌, ℕ, List, [], ◌∷◌, length, Option, Some, None, Bool, true, false, refl, sym, ap, subst, ◌∙◌, cond, inl, inr, eq-eqb, arith, append_assoc, length-append}
-use Rattle.std.proofs.lemmas.Bool.{ne_eqb, eqb-true, false≢true}
-use Rattle.std.proofs.Permutation.{which}
+use Rattle.std.proofs.Common.{◌≡◌, ◌||◌, ◌==◌, ◌++◌, ℕ, List, [], ◌∷◌, Option, Some, Bool, true, false, refl, sym, ap, subst, ◌∙◌, cond, inl, inr, eq-eqb}
+use Rattle.std.proofs.lemmas.Bool.{ne_eqb, false≢true}
 use Rattle.std.specs.List.{find}
 use Rattle.std.specs.Option.{option_map}
 use Rattle.rdb_pages.specs.declared.cell.Cell.{Cell}

@@ -1,17 +1,14 @@
 -- Rows in parts, and the pairs that plan them.
-use Rattle.std.proofs.Common.{◌≡◌, ◌<◌, ◌≤◌, ◌+◌, ◌-◌, ◌*◌, ◌/◌, ◌^◌, ◌++◌, zero, suc, ℕ, List, [], ◌∷◌, length, take, drop, replicate, get_or, Some, refl, sym, ap, ap₂, subst, ◌∙◌, arith, append_assoc, length-append, length-drop, length-take, inl, inr}
-use Rattle.std.specs.Prelude.{slice_index}
+use Rattle.std.proofs.Common.{◌≡◌, ◌<◌, ◌≤◌, ◌-◌, ◌*◌, ◌^◌, ◌++◌, zero, suc, ℕ, List, [], ◌∷◌, length, take, drop, replicate, refl, sym, ap, ap₂, ◌∙◌, arith, append_assoc, length-drop, length-take, inl, inr}
 use Rattle.std.proofs.lemmas.Bool.{cases_lt}
-use Rattle.std.proofs.lemmas.List.{take_all, drop_all, append-nil, length-take-le, length-replicate, take-append-drop, get_or-take, get_or-drop, get_or_past}
-use Rattle.rdb_pages.specs.declared.cell.Cell.{Cell}
-use Rattle.rdb_pages.specs.declared.cell.CellRef.{CellRef}
+use Rattle.std.proofs.lemmas.List.{take_all, append-nil, length-take-le, take-append-drop}
 use Rattle.rdb_cells.specs.declared.pairs.Pair.{Pair}
 use Rattle.rdb_cells.specs.Images.{Image}
-use Rattle.rdb_cells.specs.Links.{IsAmong, AreOnce, Node, Placed, IsHeld, Stand, numbers, elements, start, segment, IsChain}
+use Rattle.rdb_cells.specs.Links.{IsAmong, Placed, Stand, numbers, elements, start, segment}
 use Rattle.rdb_cells.specs.Records.{numbers_of}
-use Rattle.rdb_cells.specs.RowFormat.{IsRowCell, filled_up, row_cell, row_in}
-use Rattle.rdb_cells.proofs.RowFormatLemmas.{filled_proper, row_back}
-use Rattle.rdb_rows.specs.Rows.{AreBytes, cells_for, parts, row_parts, IsPart, HoldsRow}
+use Rattle.rdb_cells.specs.RowFormat.{filled_up, row_cell}
+use Rattle.rdb_cells.proofs.RowFormatLemmas.{filled_proper}
+use Rattle.rdb_rows.specs.Rows.{AreBytes, cells_for, parts, row_parts, IsPart}
 use Rattle.rdb_rows.specs.Plans.{first_or, part_pair, part_pairs}
 use Rattle.rdb_rows.proofs.Pairings.{AreWritten}
 

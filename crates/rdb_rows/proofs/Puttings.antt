@@ -1,26 +1,23 @@
 -- A row that is being put: what is planned so far.
 use Rattle.std.specs.Prelude.{◌==◌}
-use Rattle.std.proofs.Common.{◌≡◌, ◌<◌, ◌≤◌, ◌+◌, ◌-◌, ◌++◌, ℕ, List, [], ◌∷◌, length, take, drop, Option, Some, None, IsSome, Bool, true, false, inl, inr, refl, sym, ap, ap₂, subst, ◌∙◌, arith, append_assoc, length-append, length-drop, slice_get}
+use Rattle.std.proofs.Common.{◌≡◌, ◌<◌, ◌≤◌, ◌+◌, ◌-◌, ◌++◌, ℕ, List, [], ◌∷◌, length, take, drop, Option, Some, IsSome, Bool, true, false, inl, refl, sym, ap, subst, ◌∙◌, arith, append_assoc, length-append, length-drop, slice_get}
 use Rattle.std.proofs.lemmas.List.{append-nil, length_push}
 use Rattle.std.proofs.lemmas.Bool.{false≢true, ne_eqb}
 use Rattle.rdb_pages.specs.declared.cell.Cell.{Cell}
-use Rattle.rdb_pages.specs.declared.cell.CellRef.{CellRef}
 use Rattle.rdb_pages.specs.Pages.{zero_cell}
 use Rattle.rdb_cells.specs.declared.pairs.Pair.{Pair}
-use Rattle.rdb_cells.specs.Images.{Image, IsCell}
-use Rattle.rdb_cells.specs.Links.{IsAmong, AreOnce}
-use Rattle.rdb_cells.specs.Records.{names, numbers_of, content, with_put, first_of, planned}
-use Rattle.rdb_cells.specs.RowFormat.{filled_up, row_cell}
-use Rattle.rdb_cells.specs.Untaken.{IsUntaken, IsNextUntaken}
-use Rattle.rdb_cells.specs.Work.{Work, reading, IsLeft, HasLeft, TakesAtMost, TakesNone, TakesLowest}
+use Rattle.rdb_cells.specs.Links.{IsAmong}
+use Rattle.rdb_cells.specs.Records.{names, numbers_of, with_put, first_of}
+use Rattle.rdb_cells.specs.RowFormat.{filled_up}
+use Rattle.rdb_cells.specs.Untaken.{IsNextUntaken}
+use Rattle.rdb_cells.specs.Work.{Work, reading, IsLeft, HasLeft, TakesAtMost}
 use Rattle.rdb_cells.proofs.LinkLemmas.{among_front, among_back, once_without}
 use Rattle.rdb_cells.proofs.PairLemmas.{content_unnamed}
-use Rattle.rdb_cells.proofs.WorkLemmas.{take_work, put_work, one_left}
 use Rattle.rdb_rows.specs.Plans.{AreNextLeft, first_or, last_number, part_pair, part_pairs, PutsRow}
-use Rattle.rdb_rows.specs.Rows.{AreBytes, cells_for, row_parts}
-use Rattle.rdb_rows.proofs.Pairings.{named_before, unnamed_both, unnamed_when, put_appends}
+use Rattle.rdb_rows.specs.Rows.{cells_for, row_parts}
+use Rattle.rdb_rows.proofs.Pairings.{unnamed_both, unnamed_when, put_appends}
 use Rattle.rdb_rows.proofs.Parts.{count_parts, more_parts, one_part, part_numbers, part_pairs_count, part_more}
-use Rattle.rdb_rows.proofs.Takings.{among_above, taken_once, was_left, take_more, last_more, plans_at_most, plans_next}
+use Rattle.rdb_rows.proofs.Takings.{taken_once, was_left, take_more, last_more, plans_at_most, plans_next}
 
 -- the parts that are done stand in cells of the plan; the next part's cell is taken, and these bytes are left for it
 pub record IsPutting (w0 w : Work) (bytes : List ℕ) (first at : ℕ) (rest : List ℕ) : Type 0 where

@@ -1,9 +1,9 @@
 -- Free cells, counted one after another.
-use Rattle.std.proofs.Common.{◌≡◌, ◌<◌, ◌≤◌, ◌+◌, zero, suc, ℕ, List, [], ◌∷◌, length, slice_get, get_or, Option, Some, None, refl, sym, ap, subst, ◌∙◌, arith, nat_cmp}
+use Rattle.std.proofs.Common.{◌≡◌, ◌<◌, ◌+◌, zero, suc, ℕ, List, [], ◌∷◌, length, slice_get, get_or, Option, Some, refl, sym, ap, subst, ◌∙◌, arith}
 use Rattle.std.specs.Option.{option_map_or}
-use Rattle.std.specs.List.Sorted.{IsStrictlySortedBy, IsStrictlyIncreasing}
+use Rattle.std.specs.List.Sorted.{IsStrictlyIncreasing}
 use Rattle.std.proofs.lemmas.Map.Keys.{sorted_from_strictly_increasing, IsStrictlyIncreasing-from_sorted}
-use Rattle.rdb_cells.specs.Images.{Image, IsFree, IsNextFree}
+use Rattle.rdb_cells.specs.Images.{Image, IsNextFree}
 use Rattle.rdb_cells.specs.Overlays.{Laid}
 use Rattle.rdb_cells.specs.Records.{Record}
 use Rattle.rdb_cells.specs.Untaken.{IsUntaken, HasUntaken}

@@ -1,15 +1,11 @@
 -- A work that took its lowest cells one after another, and planned pairs of these.
-use Rattle.std.proofs.Common.{◌≡◌, ◌≢◌, ◌<◌, ◌≤◌, ◌+◌, ◌++◌, zero, suc, ℕ, List, [], ◌∷◌, length, Bool, true, false, inl, inr, refl, sym, ap, subst, ◌∙◌, arith}
-use Rattle.std.proofs.lemmas.Bool.{false≢true, cases_lt}
-use Rattle.std.proofs.Permutation.{which}
-use Rattle.rdb_pages.specs.declared.cell.CellRef.{CellRef}
+use Rattle.std.proofs.Common.{◌≡◌, ◌<◌, ◌≤◌, ◌+◌, ◌++◌, suc, ℕ, List, [], ◌∷◌, length, false, inl, inr, refl, subst, arith}
 use Rattle.rdb_cells.specs.declared.pairs.Pair.{Pair}
 use Rattle.rdb_cells.specs.Links.{IsAmong, AreOnce}
 use Rattle.rdb_cells.specs.Records.{names, numbers_of}
-use Rattle.rdb_cells.specs.Untaken.{IsUntaken, IsNextUntaken}
-use Rattle.rdb_cells.specs.Work.{Work, IsLeft, HasLeft, TakesAtMost, TakesNone, TakesLowest}
-use Rattle.rdb_cells.proofs.LinkLemmas.{among_or_not, among_either, among_front, among_back}
-use Rattle.rdb_cells.proofs.WorkLemmas.{take_work, take_one, lowest_take, lowest_then, lowest_none, at_most_then, none_at_most}
+use Rattle.rdb_cells.specs.Untaken.{IsNextUntaken}
+use Rattle.rdb_cells.specs.Work.{Work, IsLeft, TakesAtMost, TakesNone, TakesLowest}
+use Rattle.rdb_cells.proofs.WorkLemmas.{take_one, lowest_take, lowest_then, lowest_none, at_most_then, none_at_most}
 use Rattle.rdb_rows.specs.Plans.{AreNextLeft, last_number}
 use Rattle.rdb_rows.proofs.Pairings.{named_before, unnamed_both, unnamed_when}
 

@@ -1,19 +1,17 @@
 -- Versions rest on their cells, and a place has one.
-use Rattle.std.proofs.Common.{◌≡◌, ◌≢◌, ◌<◌, ◌≤◌, ◌+◌, ◌*◌, ◌/◌, ◌++◌, ◌⊎◌, ℕ, List, [], ◌∷◌, length, take, Option, Some, None, IsSome, Bool, true, false, inl, inr, refl, sym, ap, ap₂, subst, ◌∙◌, arith}
-use Rattle.std.specs.Option.{option_map_or}
+use Rattle.std.proofs.Common.{◌≡◌, ◌≢◌, ◌<◌, ℕ, List, ◌∷◌, length, take, Option, Some, None, inl, inr, refl, sym, ap, ap₂, subst, ◌∙◌, arith}
 use Rattle.std.proofs.lemmas.Bool.{false≢true}
 use Rattle.std.proofs.lemmas.List.{take_at}
-use Rattle.rdb_base.specs.declared.identity.Stamp.{Stamp}
 use Rattle.rdb_pages.specs.declared.cell.Cell.{Cell}
 use Rattle.rdb_pages.specs.declared.cell.CellRef.{CellRef}
 use Rattle.rdb_pages.specs.Pages.{zero_cell}
 use Rattle.rdb_cells.specs.declared.formats.version.VersionHeader.{VersionHeader}
 use Rattle.rdb_cells.specs.Images.{Image}
-use Rattle.rdb_cells.specs.Links.{IsAmong, AreOnce, SameOn, Stand, Placed, elements, start, segment, numbers, IsChain}
-use Rattle.rdb_cells.specs.VersionFormat.{IsHeader, header_cell, header_in}
+use Rattle.rdb_cells.specs.Links.{IsAmong, AreOnce, SameOn, Placed, elements, segment, numbers}
+use Rattle.rdb_cells.specs.VersionFormat.{header_cell, header_in}
 use Rattle.rdb_cells.proofs.LinkLemmas.{one_chain, node_of, still_chain}
 use Rattle.rdb_rows.specs.declared.label.Label.{Label}
-use Rattle.rdb_rows.specs.Rows.{cells_for, parts, row_parts, IsPart, HoldsRow}
+use Rattle.rdb_rows.specs.Rows.{cells_for, row_parts, IsPart, HoldsRow}
 use Rattle.rdb_rows.specs.Versions.{Version, is_tombstone, bytes_in, header_of, HoldsVersion}
 use Rattle.rdb_rows.proofs.Chains.{part_one, never_zero}
 use Rattle.rdb_rows.proofs.Headers.{header_back, header_some, header_no_part, the_cell}

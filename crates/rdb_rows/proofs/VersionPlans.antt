@@ -1,29 +1,27 @@
 -- Plans that put a version, change it or give it back.
-use Rattle.std.proofs.Common.{◌≡◌, ◌≢◌, ◌<◌, ◌≤◌, ◌+◌, ◌^◌, ◌++◌, ◌⊎◌, ℕ, List, [], ◌∷◌, length, Option, Some, None, true, false, inl, inr, refl, sym, ap, ap₂, subst, ◌∙◌, arith, append_assoc, length-append}
-use Rattle.std.proofs.Permutation.{which}
-use Rattle.rdb_base.specs.declared.identity.Stamp.{Stamp}
+use Rattle.std.proofs.Common.{◌≡◌, ◌≤◌, ◌+◌, ◌++◌, ℕ, List, [], ◌∷◌, length, Option, Some, false, inl, inr, refl, sym, ap, ap₂, subst, ◌∙◌, arith, append_assoc, length-append}
 use Rattle.rdb_base.specs.declared.limits.TheConstants.{MAX_ROW}
 use Rattle.rdb_pages.specs.declared.cell.Cell.{Cell}
 use Rattle.rdb_pages.specs.declared.cell.CellRef.{CellRef}
 use Rattle.rdb_pages.specs.Pages.{zero_cell}
 use Rattle.rdb_cells.specs.declared.pairs.Pair.{Pair}
 use Rattle.rdb_cells.specs.Images.{Image, Writes}
-use Rattle.rdb_cells.specs.Links.{IsAmong, AreOnce, SameOn, AreDisjoint, numbers, segment, start}
-use Rattle.rdb_cells.specs.Records.{names, numbers_of, content, with_put, first_of, planned}
+use Rattle.rdb_cells.specs.Links.{IsAmong, AreOnce}
+use Rattle.rdb_cells.specs.Records.{names, numbers_of, content, first_of}
 use Rattle.rdb_cells.specs.Untaken.{IsNextUntaken}
-use Rattle.rdb_cells.specs.VersionFormat.{IsHeader, header_cell, header_in}
-use Rattle.rdb_cells.specs.Work.{Work, reading, IsLeft, TakesAtMost, TakesNone, TakesLowest}
-use Rattle.rdb_cells.proofs.LinkLemmas.{among_either, among_front, among_back, once_together}
+use Rattle.rdb_cells.specs.VersionFormat.{header_cell}
+use Rattle.rdb_cells.specs.Work.{Work, reading, IsLeft, TakesAtMost, TakesLowest}
+use Rattle.rdb_cells.proofs.LinkLemmas.{among_either, once_together}
 use Rattle.rdb_cells.proofs.PairLemmas.{content_unnamed}
-use Rattle.rdb_cells.proofs.WorkLemmas.{take_work, put_work, put_reads, put_says, left_blank, put_takes_none, take_one, at_most_then}
-use Rattle.rdb_rows.specs.Plans.{AreNextLeft, first_or, last_number, part_pairs, version_pairs, PutsRow, PutsVersion, Clears, GivesBack, ChangesOlder}
-use Rattle.rdb_rows.specs.Rows.{AreBytes, cells_for, row_parts, IsPart, HoldsRow}
-use Rattle.rdb_rows.specs.Versions.{Version, IsLabel, is_tombstone, bytes_in, header_of, HoldsVersion, stamped, over_older}
-use Rattle.rdb_rows.proofs.Headers.{header_back, header_some, the_cell}
+use Rattle.rdb_cells.proofs.WorkLemmas.{put_work, put_reads, put_says, left_blank}
+use Rattle.rdb_rows.specs.Plans.{AreNextLeft, first_or, last_number, part_pairs, version_pairs, PutsRow, PutsVersion, Clears}
+use Rattle.rdb_rows.specs.Rows.{AreBytes, cells_for, row_parts, HoldsRow}
+use Rattle.rdb_rows.specs.Versions.{Version, IsLabel, bytes_in, header_of, HoldsVersion}
+use Rattle.rdb_rows.proofs.Headers.{header_some, the_cell}
 use Rattle.rdb_rows.proofs.Pairings.{put_appends, AreWritten, plan_written, content_before, unnamed_both, unnamed_when}
 use Rattle.rdb_rows.proofs.Parts.{count_parts, parts_are, part_numbers, part_pairs_count, placed, placed_numbers, placed_elements, placed_start, AreNear, parts_stand}
 use Rattle.rdb_rows.proofs.Puttings.{parts_match}
-use Rattle.rdb_rows.proofs.Takings.{among_above, taken_once, was_left, plans_at_most, plans_lowest}
+use Rattle.rdb_rows.proofs.Takings.{taken_once, was_left, plans_at_most, plans_lowest}
 use Rattle.rdb_rows.proofs.VersionLemmas.{version_rests, header_apart, version_some, row_rests}
 
 -- Putting

@@ -1,9 +1,9 @@
-use Rattle.std.proofs.Common.{◌≡◌, ◌<◌, ◌≤◌, ◌-◌, ℕ, List, length, take, drop, true, false, refl, sym, ap, subst, ◌∙◌, arith, rules}
+use Rattle.std.proofs.Common.{◌≡◌, ◌<◌, ◌-◌, ℕ, List, length, take, refl, sym, ap, subst, ◌∙◌, arith}
 use Rattle.rdb_cells.specs.RowFormat.{filled_up, row_cell}
-use Rattle.rdb_cells.specs.Work.{Work, work, reading, TakesAtMost}
+use Rattle.rdb_cells.specs.Work.{Work, work}
 use Rattle.rdb_cells.proofs.WorkLemmas.{take_work, put_work, put_is, take_is}
 use Rattle.rdb_rows.specs.Rows.{cells_for}
-use Rattle.rdb_rows.proofs.Puttings.{IsPutting, putting_begins, putting_left, at_reads, place_left, putting_more, putting_ends, some_left, row_takes, puts_nothing, some_bytes, no_bytes, a_cell}
+use Rattle.rdb_rows.proofs.Puttings.{IsPutting, putting_begins, putting_left, at_reads, place_left, putting_more, putting_ends, some_left, row_takes, some_bytes, a_cell}
 use Rattle.rdb_rows.proofs.rows.put_row.Goals as goal
 
 pub take-first-requires : goal.take-first-requires

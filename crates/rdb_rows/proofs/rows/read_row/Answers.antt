@@ -1,4 +1,4 @@
-use Rattle.std.proofs.Common.{◌≡◌, ◌<◌, ◌≤◌, ◌+◌, ◌-◌, ◌++◌, ℕ, List, [], min, take, length, refl, sym, ap, ap₂, subst, ◌∙◌, arith, rules}
+use Rattle.std.proofs.Common.{◌≡◌, ℕ, [], subst, arith, rules}
 use Rattle.rdb_rows.proofs.Chains.{IsRead, chain_once, nothing_read, all_read, read_next, read_more}
 use Rattle.rdb_rows.proofs.Puttings.{a_cell}
 use Rattle.rdb_rows.proofs.rows.read_row.Goals as goal

@@ -1,4 +1,4 @@
-use Rattle.std.proofs.Common.{◌≤◌, ◌+◌, ◌/◌, [], length, subst, Bor, arith, rules}
+use Rattle.std.proofs.Common.{◌≤◌, ◌+◌, [], length, subst, Bor, arith, rules}
 use Rattle.rdb_cells.specs.Memory.{Memory, memory_image, memory_class}
 use Rattle.rdb_cells.specs.Overlays.{Laid}
 use Rattle.rdb_cells.specs.Untaken.{HasUntaken}

@@ -1,4 +1,4 @@
-use Rattle.std.proofs.Common.{◌≡◌, ◌≤◌, ℕ, [], subst, arith}
+use Rattle.std.proofs.Common.{◌≡◌, [], subst, arith}
 use Rattle.rdb_cells.specs.Memory.{memory_image, memory_class}
 use Rattle.rdb_cells.specs.Untaken.{HasUntaken}
 use Rattle.rdb_rows.proofs.Rooms.{counted_more, all_counted}

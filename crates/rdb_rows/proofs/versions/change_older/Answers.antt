@@ -1,6 +1,5 @@
-use Rattle.std.proofs.Common.{◌≡◌, ◌≢◌, ℕ, refl, sym, ap, subst, ◌∙◌, inl, inr}
+use Rattle.std.proofs.Common.{refl, sym, subst, inl, inr}
 use Rattle.rdb_pages.specs.declared.cell.Cell.{Cell}
-use Rattle.rdb_pages.specs.Pages.{zero_cell}
 use Rattle.rdb_cells.specs.Images.{Writes}
 use Rattle.rdb_cells.specs.Links.{IsAmong}
 use Rattle.rdb_cells.specs.VersionFormat.{header_cell}

@@ -1,8 +1,8 @@
-use Rattle.std.proofs.Common.{◌≡◌, ℕ, List, length, refl, sym, ap, subst, ◌∙◌}
+use Rattle.std.proofs.Common.{ℕ, refl, sym, ap, subst}
 use Rattle.rdb_pages.specs.Pages.{zero_cell}
 use Rattle.rdb_cells.specs.VersionFormat.{header_cell}
 use Rattle.rdb_cells.specs.Work.{Work, work, reading, TakesNone}
-use Rattle.rdb_cells.proofs.WorkLemmas.{put_work, put_is, put_takes_none, none_then}
+use Rattle.rdb_cells.proofs.WorkLemmas.{put_is, put_takes_none, none_then}
 use Rattle.rdb_rows.specs.Plans.{Clears}
 use Rattle.rdb_rows.specs.Rows.{HoldsRow}
 use Rattle.rdb_rows.specs.Versions.{bytes_in, header_of}

@@ -1,10 +1,10 @@
-use Rattle.std.proofs.Common.{◌≡◌, ◌≤◌, ℕ, [], None, refl, sym, ap, subst, ◌∙◌, arith}
+use Rattle.std.proofs.Common.{[], None, refl, ap, ◌∙◌, arith}
 use Rattle.rdb_cells.specs.VersionFormat.{header_cell}
-use Rattle.rdb_cells.specs.Work.{Work, work, TakesAtMost}
+use Rattle.rdb_cells.specs.Work.{work}
 use Rattle.rdb_cells.proofs.WorkLemmas.{take_work, put_work, take_is, put_is, one_left}
-use Rattle.rdb_rows.specs.Versions.{Version, header_of}
+use Rattle.rdb_rows.specs.Versions.{Version}
 use Rattle.rdb_rows.proofs.Puttings.{puts_nothing}
-use Rattle.rdb_rows.proofs.VersionPlans.{version_work, puts_version, version_takes, both_lowest, header_put}
+use Rattle.rdb_rows.proofs.VersionPlans.{puts_version, version_takes, both_lowest, header_put}
 use Rattle.rdb_rows.proofs.versions.put_tombstone.Goals as goal
 
 pub take-at-requires : goal.take-at-requires

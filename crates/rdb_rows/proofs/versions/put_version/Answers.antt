@@ -1,12 +1,12 @@
-use Rattle.std.proofs.Common.{◌≡◌, ◌<◌, ◌≤◌, ◌+◌, ℕ, List, length, Some, refl, sym, ap, subst, ◌∙◌, arith}
+use Rattle.std.proofs.Common.{◌≡◌, ◌+◌, length, Some, refl, sym, ap, subst, ◌∙◌, arith}
 use Rattle.rdb_cells.specs.VersionFormat.{header_cell}
-use Rattle.rdb_cells.specs.Work.{Work, work, HasLeft, TakesAtMost}
+use Rattle.rdb_cells.specs.Work.{Work, work, HasLeft}
 use Rattle.rdb_cells.proofs.WorkLemmas.{take_work, put_work, take_is, put_is, take_one}
 use Rattle.rdb_rows.specs.Plans.{PutsRow}
 use Rattle.rdb_rows.specs.Rows.{cells_for}
-use Rattle.rdb_rows.specs.Versions.{Version, header_of}
-use Rattle.rdb_rows.proofs.Puttings.{some_left, row_places, a_cell}
-use Rattle.rdb_rows.proofs.VersionPlans.{version_work, puts_version, version_takes, version_places, both_lowest, header_put}
+use Rattle.rdb_rows.specs.Versions.{Version}
+use Rattle.rdb_rows.proofs.Puttings.{some_left, row_places}
+use Rattle.rdb_rows.proofs.VersionPlans.{puts_version, version_takes, version_places, both_lowest, header_put}
 use Rattle.rdb_rows.proofs.versions.put_version.Goals as goal
 
 pub take-at-requires : goal.take-at-requires

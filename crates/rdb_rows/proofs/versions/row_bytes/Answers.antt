@@ -1,4 +1,4 @@
-use Rattle.std.proofs.Common.{◌≡◌, ℕ, sym, ap, subst}
+use Rattle.std.proofs.Common.{ℕ, sym, ap, subst}
 use Rattle.rdb_cells.specs.VersionFormat.{header_cell}
 use Rattle.rdb_rows.specs.Rows.{HoldsRow}
 use Rattle.rdb_rows.specs.Versions.{bytes_in, header_of}
