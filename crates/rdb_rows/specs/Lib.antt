@@ -1,3 +1,8 @@
 pub mod Rows
 pub mod Versions
 pub mod Plans
+pub mod Spots
+pub mod RowKeys
+pub mod KeyLaws
+pub mod Places
+pub mod RowSpots
