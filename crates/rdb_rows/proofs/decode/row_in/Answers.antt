@@ -1,4 +1,4 @@
-use Rattle.std.proofs.Common.{◌≡◌, List, ℕ, sym, ap, subst, ◌∙◌, rules}
+use Rattle.std.proofs.Common.{◌≡◌, sym, ◌∙◌}
 use Rattle.rdb_rows.specs.Versions.{bytes_in}
 use Rattle.rdb_rows.proofs.Decodings.{no_row, a_row}
 use Rattle.rdb_rows.proofs.decode.row_in.Goals as goal
