@@ -7,4 +7,5 @@ pub mod Headers
 pub mod VersionLemmas
 pub mod VersionPlans
 pub mod Rooms
+pub mod Decodings
 pub mod SpotLemmas

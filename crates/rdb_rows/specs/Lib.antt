@@ -1,6 +1,7 @@
 pub mod Rows
 pub mod Versions
 pub mod Plans
+pub mod Decoded
 pub mod Spots
 pub mod RowKeys
 pub mod KeyLaws

@@ -1,7 +1,7 @@
-//! The versions of objects in cells: a header for each, and its row in a chain of row cells. Also the keys that indexes go by,
-//! read from the cells as they stand.
+//! The versions of objects in cells: a header for each, and its row in a chain of row cells.
 #![tactic(auto)]
 
+mod decode;
 mod hash;
 mod label;
 mod laws;
@@ -15,6 +15,7 @@ mod tests;
 mod versions;
 mod walk;
 
+pub use decode::row_in;
 pub use label::Label;
 pub use laws::{
     a_place_has_one_version, a_put_version_keeps_the_others, versions_rest_on_their_cells,

@@ -1,6 +1,6 @@
 use Rattle.std.proofs.Common.{◌≡◌, ◌≤◌, ℕ, List, true, false, sym, ap, ◌∙◌, subst, arith}
 use Rattle.std.specs.Int.{w128}
-use Rattle.std.proofs.lemmas.Int.{to_z-of_z}
+use Rattle.std.proofs.lemmas.Int.{ints, to_z-of_z}
 use Rattle.rdb_rows.proofs.SpotLemmas.{number_is}
 use Rattle.rdb_rows.proofs.spot.next_number.Goals as goal
 
@@ -11,7 +11,7 @@ returns-then-signed g c bytes within stand =
     let read = c.next_bytes-bytes.ensures bytes (omega arith) stand in
     rw (← same)
     (
-      to_z-of_z w128 c.from.result c.from.type_inv ∙ c.from.ensures ∙ c.read_int.ensures
+      to_z-of_z w128 c.from.result (omega (arith, ints)) ∙ c.from.ensures ∙ c.read_int.ensures
       ∙ rw c.if-signed.true (number_is c.from-width.result true c.next_bytes-bytes.result bytes (omega arith) (omega arith) (omega arith) read.0),
       read.1,
     )
@@ -23,7 +23,7 @@ returns-else-signed g c bytes within stand =
     let read = c.next_bytes-bytes.ensures bytes (omega arith) stand in
     rw (← same)
     (
-      to_z-of_z w128 c.from-else-signed.result c.from-else-signed.type_inv ∙ c.from-else-signed.ensures
+      to_z-of_z w128 c.from-else-signed.result (omega (arith, ints)) ∙ c.from-else-signed.ensures
       ∙ ?,
       read.1,
     )

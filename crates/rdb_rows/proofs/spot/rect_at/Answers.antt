@@ -1,6 +1,6 @@
 use Rattle.std.proofs.Common.{◌≡◌, ◌≤◌, ◌++◌, ◌+◌, ℕ, List, length, drop, length-append, length-drop, ap, ◌∙◌, arith}
 use Rattle.std.specs.Int.{w32}
-use Rattle.std.proofs.lemmas.Int.{to_z-of_z}
+use Rattle.std.proofs.lemmas.Int.{ints, to_z-of_z}
 use Rattle.std.proofs.lemmas.List.{drop-drop}
 use Rattle.rdb_access.specs.Read.{edge_from}
 use Rattle.rdb_rows.proofs.SpotLemmas.{has_bytes, fewer_bytes}
@@ -55,8 +55,8 @@ returns g c bytes within stand =
     let fourth = c.next_edge-y2.ensures (drop 4 (drop 4 (drop 4 bytes))) (omega arith) third.1 in
     let eight : drop 4 (drop 4 bytes) ≡ drop 8 bytes = drop-drop 4 4 bytes in
     let twelve : drop 4 (drop 4 (drop 4 bytes)) ≡ drop 12 bytes = ap (drop 4) eight ∙ drop-drop 4 8 bytes in
-    let x1 = to_z-of_z w32 c.next_edge-x1.result c.next_edge-x1.type_inv ∙ first.0 in
-    let y1 = to_z-of_z w32 c.next_edge-y1.result c.next_edge-y1.type_inv ∙ second.0 in
-    let x2 = to_z-of_z w32 c.next_edge-x2.result c.next_edge-x2.type_inv ∙ third.0 ∙ ap edge_from eight in
-    let y2 = to_z-of_z w32 c.next_edge-y2.result c.next_edge-y2.type_inv ∙ fourth.0 ∙ ap edge_from twelve in
+    let x1 = to_z-of_z w32 c.next_edge-x1.result (let small = c.next_edge-x1.type_inv in omega (arith, ints)) ∙ first.0 in
+    let y1 = to_z-of_z w32 c.next_edge-y1.result (let small = c.next_edge-y1.type_inv in omega (arith, ints)) ∙ second.0 in
+    let x2 = to_z-of_z w32 c.next_edge-x2.result (let small = c.next_edge-x2.type_inv in omega (arith, ints)) ∙ third.0 ∙ ap edge_from eight in
+    let y2 = to_z-of_z w32 c.next_edge-y2.result (let small = c.next_edge-y2.type_inv in omega (arith, ints)) ∙ fourth.0 ∙ ap edge_from twelve in
     λ i. record { x1 = x1 i; y1 = y1 i; x2 = x2 i; y2 = y2 i }
