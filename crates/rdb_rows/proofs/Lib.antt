@@ -9,3 +9,4 @@ pub mod VersionPlans
 pub mod Rooms
 pub mod Decodings
 pub mod SpotLemmas
+pub mod WalkLemmas

@@ -1,7 +1,7 @@
 -- Bytes that stand from a spot on.
 use Rattle.std.proofs.Common.{◌≡◌, ◌<◌, ◌≤◌, ◌+◌, ◌-◌, ◌*◌, ◌^◌, ◌++◌, zero, suc, ℕ, List, [], ◌∷◌, length, take, drop, get_or, set, Option, Some, None, refl, sym, ap, ap₂, subst, ◌∙◌, arith, length-append, length-drop, length-take}
 use Rattle.std.specs.Prelude.{slice_index}
-use Rattle.std.specs.Prelude.{ℤ, pos, Bool, if◌then◌else◌}
+use Rattle.std.specs.Prelude.{ℤ, pos, Bool, true, false, if◌then◌else◌}
 use Rattle.std.specs.Int.{w32, to_le_bytes, cast_signed}
 use Rattle.std.proofs.lemmas.Bool.{le-leb}
 use Rattle.byteorder.specs.Endian.{little_number, twos_complement}
@@ -147,3 +147,13 @@ fewer_bytes image spot few many less has =
     let both = length-append has.bytes has.rest in
     let long = has.long in
     has_bytes image spot few (has.bytes ++ has.rest) (omega arith) has.stand
+
+pub unsigned_is : (w n : ℕ) (signed : Bool) (read bytes : List ℕ) → signed ≡ false → n ≡ little_number w read → 1 ≤ w → w ≤ 8 → w ≤ length bytes → take w read ≡ take w bytes → pos n ≡ number_from w signed bytes
+unsigned_is w n signed read bytes plain is low high within same =
+    ap pos is ∙ sym (ap (λ (b : Bool). if b then twos_complement w (little_number w read) else pos (little_number w read)) plain)
+    ∙ number_is w signed read bytes low high within same
+
+pub signed_is : (w : ℕ) (z : ℤ) (signed : Bool) (read bytes : List ℕ) → signed ≡ true → z ≡ twos_complement w (little_number w read) → 1 ≤ w → w ≤ 8 → w ≤ length bytes → take w read ≡ take w bytes → z ≡ number_from w signed bytes
+signed_is w z signed read bytes plain is low high within same =
+    is ∙ sym (ap (λ (b : Bool). if b then twos_complement w (little_number w read) else pos (little_number w read)) plain)
+    ∙ number_is w signed read bytes low high within same
