@@ -10,3 +10,4 @@ pub mod Rooms
 pub mod Decodings
 pub mod SpotLemmas
 pub mod WalkLemmas
+pub mod PlaceLemmas
