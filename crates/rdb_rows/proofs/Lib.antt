@@ -11,3 +11,4 @@ pub mod Decodings
 pub mod SpotLemmas
 pub mod WalkLemmas
 pub mod PlaceLemmas
+pub mod LeafSpots
