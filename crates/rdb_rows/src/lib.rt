@@ -3,6 +3,7 @@
 
 mod decode;
 mod hash;
+mod key_fields;
 mod label;
 mod laws;
 mod leaves;
