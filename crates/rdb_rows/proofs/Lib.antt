@@ -12,3 +12,4 @@ pub mod SpotLemmas
 pub mod WalkLemmas
 pub mod PlaceLemmas
 pub mod LeafSpots
+pub mod KeyRows
