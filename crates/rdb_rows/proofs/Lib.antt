@@ -13,3 +13,4 @@ pub mod WalkLemmas
 pub mod PlaceLemmas
 pub mod LeafSpots
 pub mod KeyRows
+pub mod KeyedRows

@@ -23,7 +23,7 @@ use Rattle.rdb_rows.specs.RowKeys.{KeyShape, picked, key_types, of_kind, bytes_f
 use Rattle.rdb_schema.specs.Encoding.{row_bytes}
 use Rattle.rdb_access.specs.Read.{read_values}
 
-none_some : {X : Type 0} (x : X) → None ≡ Some x → ⊥
+pub none_some : {X : Type 0} (x : X) → None ≡ Some x → ⊥
 none_some {X = X} x e = false≢true (ap (λ (o : Option X). is_some o) e)
 
 the_some : {X : Type 0} (x y : X) → Some x ≡ Some y → x ≡ y
