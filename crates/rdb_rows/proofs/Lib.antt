@@ -14,3 +14,4 @@ pub mod PlaceLemmas
 pub mod LeafSpots
 pub mod KeyRows
 pub mod KeyedRows
+pub mod KeyTexts
