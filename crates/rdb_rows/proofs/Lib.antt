@@ -15,3 +15,4 @@ pub mod LeafSpots
 pub mod KeyRows
 pub mod KeyedRows
 pub mod KeyTexts
+pub mod SayingLemmas
