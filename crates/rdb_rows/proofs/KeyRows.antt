@@ -58,8 +58,8 @@ leaf_of image first spot types row f begins is stand =
     let bytes : List ℕ = row_bytes (drop f.field types) (drop f.field row) in
     let here : slice_get row f.field ≡ Some (value.Leaf leaf_is.0) = there.1 ∙ ap Some leaf_is.1 in
     let read : Some (value.Leaf leaf_is.0) ≡ Some (value.Leaf (read_leaf f.ty bytes)) =
-        sym here ∙ ap (λ (vs : List Value). slice_get vs f.field) begins.read ∙ read_at types (row_bytes types row) f.field (values.Leaf f.ty) is.leaf
-        ∙ ap (λ (xs : List ℕ). Some (read_value (values.Leaf f.ty) xs)) (values_step f.field types row begins.fits) in
+    sym here ∙ ap (λ (vs : List Value). slice_get vs f.field) begins.read ∙ read_at types (row_bytes types row) f.field (values.Leaf f.ty) is.leaf
+    ∙ ap (λ (xs : List ℕ). Some (read_value (values.Leaf f.ty) xs)) (values_step f.field types row begins.fits) in
     record {
       l = leaf_is.0;
       there = here;

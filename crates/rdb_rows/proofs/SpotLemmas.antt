@@ -62,11 +62,13 @@ has_cell image spot bytes some stand = by_count stand.many stand.here
     nothing n e =
         let long = ap (λ (xs : List ℕ). length xs) (sym (no_drop n) ∙ e) ∙ length-append bytes stand.fill in
         absurd (omega arith)
+
     by_cell : (many : ℕ) (o : Option Cell) → of_kind kind.Row (image spot.cell.number) ≡ o → drop spot.place (option_map_or (λ cell. (row_in cell).bytes ++ bytes_from image many (row_in cell).next.number) o []) ≡ bytes ++ stand.fill → HasCell image spot bytes stand.fill
     by_cell many None is here = absurd (nothing spot.place here)
     by_cell many (Some cell) is here =
         let found = found_kind kind.Row (image spot.cell.number) cell is in
         record { cell = cell; many = many; here = found.0; row = found.1; stands = here }
+
     by_count : (many : ℕ) → drop spot.place (bytes_from image many spot.cell.number) ≡ bytes ++ stand.fill → HasCell image spot bytes stand.fill
     by_count zero here = absurd (nothing spot.place here)
     by_count (suc many) here = by_cell many (of_kind kind.Row (image spot.cell.number)) refl here

@@ -75,11 +75,14 @@ pub pairs_begin : {A B : Type 0} (bytes : A → B → List ℕ) (test : A → B 
     → Stand image spot (pairs_bytes bytes (drop i xs) (drop i ys) ++ rest) → (y : B) × (test x y ≡ true) × Stand image spot (bytes x y ++ (pairs_bytes bytes (drop (i + 1) xs) (drop (i + 1) ys) ++ rest))
 pairs_begin bytes test image spot xs ys rest i x e all stand =
     let there = pair_at test xs ys i x e all in
-    let next : suc i ≡ i + 1 = omega arith in
-    (there.0, there.2, subst (Stand image spot)
-      (ap (λ (zs : List ℕ). zs ++ rest) (bytes_at bytes xs ys i x there.0 e there.1)
-      ∙ append_assoc (bytes x there.0) (pairs_bytes bytes (drop (suc i) xs) (drop (suc i) ys)) rest
-      ∙ ap (λ (n : ℕ). bytes x there.0 ++ (pairs_bytes bytes (drop n xs) (drop n ys) ++ rest)) next) stand)
+    let next : suc i ≡ i + 1 = omega arith in (
+      there.0,
+      there.2,
+      subst (Stand image spot)
+          (ap (λ (zs : List ℕ). zs ++ rest) (bytes_at bytes xs ys i x there.0 e there.1)
+          ∙ append_assoc (bytes x there.0) (pairs_bytes bytes (drop (suc i) xs) (drop (suc i) ys)) rest
+          ∙ ap (λ (n : ℕ). bytes x there.0 ++ (pairs_bytes bytes (drop n xs) (drop n ys) ++ rest)) next) stand,
+    )
 
 -- behind all pairs stands what is left
 no_pairs : {A B : Type 0} (bytes : A → B → List ℕ) (ys : List B) → pairs_bytes bytes [] ys ≡ []
@@ -94,15 +97,21 @@ pairs_end {A = A} bytes image spot xs ys rest i all stand =
 pub element_begin : (of : ElementType) (image : Image) (spot : Spot) (es : List Element) (rest : List ℕ) (i : ℕ) → i < length es → list_all (element_fits of) es ≡ true
     → Stand image spot (flat_map (element_bytes of) (drop i es) ++ rest) → (e : Element) × (element_fits of e ≡ true) × Stand image spot (element_bytes of e ++ (flat_map (element_bytes of) (drop (i + 1) es) ++ rest))
 element_begin of image spot [] rest i within all stand = absurd (omega arith)
-element_begin of image spot (e ∷ es) rest zero within all stand = (e, first_of (element_fits of e) (list_all (element_fits of) es) all,
-  subst (Stand image spot) (append_assoc (element_bytes of e) (flat_map (element_bytes of) es) rest) stand)
+element_begin of image spot (e ∷ es) rest zero within all stand = (
+  e,
+  first_of (element_fits of e) (list_all (element_fits of) es) all,
+  subst (Stand image spot) (append_assoc (element_bytes of e) (flat_map (element_bytes of) es) rest) stand,
+)
 element_begin of image spot (e ∷ es) rest (suc i) within all stand =
     let later = element_begin of image spot es rest i (omega arith) (second_of (element_fits of e) (list_all (element_fits of) es) all) stand in
     let next : i + 1 ≡ suc i = omega arith in
-    let more : suc i + 1 ≡ suc (suc i) = omega arith in
-    (later.0, later.1, subst (Stand image spot)
-      (ap (λ (n : ℕ). element_bytes of later.0 ++ (flat_map (element_bytes of) (drop n es) ++ rest)) next
-      ∙ sym (ap (λ (n : ℕ). element_bytes of later.0 ++ (flat_map (element_bytes of) (drop n (e ∷ es)) ++ rest)) more)) later.2)
+    let more : suc i + 1 ≡ suc (suc i) = omega arith in (
+      later.0,
+      later.1,
+      subst (Stand image spot)
+          (ap (λ (n : ℕ). element_bytes of later.0 ++ (flat_map (element_bytes of) (drop n es) ++ rest)) next
+          ∙ sym (ap (λ (n : ℕ). element_bytes of later.0 ++ (flat_map (element_bytes of) (drop n (e ∷ es)) ++ rest)) more)) later.2,
+    )
 
 pub elements_end : (of : ElementType) (image : Image) (spot : Spot) (es : List Element) (rest : List ℕ) (i : ℕ) → length es ≤ i → Stand image spot (flat_map (element_bytes of) (drop i es) ++ rest) → Stand image spot rest
 elements_end of image spot es rest i all stand =

@@ -29,11 +29,10 @@ loop-at-preserved c =
     let key = c.args.key.now in
     let i = c.loop-at.at in
     let own = hashed_value types fields key i f c.at.ensures c.requires.fields c.loop-at.invariant.0 in
-    let same = own_value key i f.ty (picked types (numbers_in (drop (i + 1) fields))) own c.at-in-loop-at.result.now c.at-in-loop-at.ensures in
-    (
+    let same = own_value key i f.ty (picked types (numbers_in (drop (i + 1) fields))) own c.at-in-loop-at.result.now c.at-in-loop-at.ensures in (
       own.rest,
       hash_more (fnv1a (row_bytes (picked types (numbers_in fields)) key)) c.loop-at.hash c.hash_field-hash.result f.ty own.own
-      (picked types (numbers_in (drop (i + 1) fields))) (drop (i + 1) key) (picked types (numbers_in (drop i fields))) (drop i key)
-      (types_there types fields key i f c.at.ensures c.requires.fields c.loop-at.invariant.0) own.left
-      (c.hash_field-hash.ensures ∙ ap (λ (v : Value). fold fnv_step c.loop-at.hash (value_bytes (values.Leaf f.ty) v)) same) c.loop-at.invariant.1,
+          (picked types (numbers_in (drop (i + 1) fields))) (drop (i + 1) key) (picked types (numbers_in (drop i fields))) (drop i key)
+          (types_there types fields key i f c.at.ensures c.requires.fields c.loop-at.invariant.0) own.left
+          (c.hash_field-hash.ensures ∙ ap (λ (v : Value). fold fnv_step c.loop-at.hash (value_bytes (values.Leaf f.ty) v)) same) c.loop-at.invariant.1,
     )

@@ -9,8 +9,7 @@ loop-number-preserved c =
     let told = c.in_ok-key_field.ensures in
     let before : c.loop-number.number-index < length c.args.numbers.now = c.loop-number-test.true in
     let more = take_more c.args.numbers.now c.loop-number.number-index 0 before in
-    rw c.in_ok-push.ensures.ok
-    (
+    rw c.in_ok-push.ensures.ok (
       numbers_more c.loop-number.fields made ∙ ap₂ (λ (ns : List ℕ) (n : ℕ). ns ++ n ∷ []) c.loop-number.invariant.0 told.0 ∙ sym more,
       fields_more c.args.types.now c.loop-number.fields made c.loop-number.invariant.1 told.1,
     )

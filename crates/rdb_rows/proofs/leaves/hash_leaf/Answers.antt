@@ -27,11 +27,10 @@ loop-preserved g c l begins =
     let bytes = leaf_bytes c.args.ty l in
     let i = c.loop.counter in
     let next = c.next_byte.ensures (get_or bytes i 0) (drop (i + 1) bytes ++ begins.rest) (next_word image c.loop.next bytes begins.rest i (omega arith) so_far.0) in
-    let more = drop_more bytes i 0 (omega arith) in
-    (
+    let more = drop_more bytes i 0 (omega arith) in (
       next.1,
       ap (λ (h : ℕ). fold fnv_step h (drop (i + 1) bytes)) (c.hash_byte-hash.ensures ∙ ap (fnv_step c.loop.hash) next.0)
-      ∙ sym (ap (fold fnv_step c.loop.hash) more) ∙ so_far.1,
+          ∙ sym (ap (fold fnv_step c.loop.hash) more) ∙ so_far.1,
     )
 
 pub returns : goal.returns

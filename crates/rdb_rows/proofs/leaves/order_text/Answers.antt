@@ -37,9 +37,11 @@ loop-at-preserved g c words rest stand =
     let many = so_far.0 in
     let before : c.loop-at.at < c.min-at-end.result = c.loop-at-test.true in
     let least = c.min-at-end.ensures in
-    let next = c.next_byte-in-loop-at.ensures (get_or words c.loop-at.at 0) (drop (c.loop-at.at + 1) words ++ rest) (next_word image c.loop-at.left words rest c.loop-at.at (omega arith) so_far.1) in
-    (so_far.0, next.1,
-      step_equal words c.args.other.now c.loop-at.at c.next_byte-in-loop-at.result (get_or c.args.other.now c.loop-at.at 0) c.cmp.result (slice_cmp nat_cmp words c.args.other.now) (omega arith) (omega arith) c.cmp.ensures next.0 refl so_far.2 c.in-Equal.is)
+    let next = c.next_byte-in-loop-at.ensures (get_or words c.loop-at.at 0) (drop (c.loop-at.at + 1) words ++ rest) (next_word image c.loop-at.left words rest c.loop-at.at (omega arith) so_far.1) in (
+      so_far.0,
+      next.1,
+      step_equal words c.args.other.now c.loop-at.at c.next_byte-in-loop-at.result (get_or c.args.other.now c.loop-at.at 0) c.cmp.result (slice_cmp nat_cmp words c.args.other.now) (omega arith) (omega arith) c.cmp.ensures next.0 refl so_far.2 c.in-Equal.is,
+    )
 
 pub returns : goal.returns
 returns g c words rest stand =

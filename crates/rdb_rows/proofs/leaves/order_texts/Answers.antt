@@ -58,9 +58,13 @@ loop-preserved g c words rest stand others last also =
     let least = c.min-end.ensures in
     let i = c.loop.counter in
     let next = c.next_byte-in-loop.ensures (get_or words i 0) (drop (i + 1) words ++ rest) (next_word image c.loop.left words rest i (omega arith) so_far.2) in
-    let second = c.next_byte-in-loop-2.ensures (get_or others i 0) (drop (i + 1) others ++ last) (next_word image c.loop.right others last i (omega arith) so_far.3) in
-    (so_far.0, so_far.1, next.1, second.1,
-      step_equal words others i c.next_byte-in-loop.result c.next_byte-in-loop-2.result c.cmp.result (slice_cmp nat_cmp words others) (omega arith) (omega arith) c.cmp.ensures next.0 second.0 so_far.4 c.in-Equal.is)
+    let second = c.next_byte-in-loop-2.ensures (get_or others i 0) (drop (i + 1) others ++ last) (next_word image c.loop.right others last i (omega arith) so_far.3) in (
+      so_far.0,
+      so_far.1,
+      next.1,
+      second.1,
+      step_equal words others i c.next_byte-in-loop.result c.next_byte-in-loop-2.result c.cmp.result (slice_cmp nat_cmp words others) (omega arith) (omega arith) c.cmp.ensures next.0 second.0 so_far.4 c.in-Equal.is,
+    )
 
 pub returns : goal.returns
 returns g c words rest stand others last also =

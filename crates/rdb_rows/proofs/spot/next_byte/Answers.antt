@@ -15,8 +15,7 @@ read-cell-requires g c =
 pub returns : goal.returns
 returns g c byte rest stand =
     let image = g.C.Cells.image c.args.cells.now in
-    let settled = c.settle-settled.ensures.stand (byte ∷ rest) (omega arith) stand in
-    (
+    let settled = c.settle-settled.ensures.stand (byte ∷ rest) (omega arith) stand in (
       c.byte_in-byte.ensures ∙ byte_stand image c.settle-settled.result c.read-cell.result.now byte rest c.settle-settled.ensures.within c.read-cell.ensures c.is_whole.ensures settled,
       c.skip.ensures.stand image (byte ∷ rest) (omega arith) settled,
     )

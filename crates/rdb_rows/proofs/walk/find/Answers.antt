@@ -32,9 +32,9 @@ loop-at-preserved g c =
     let s = c.at-step.result.now in
     step_more image c.args.first c.loop-at.spot c.args.types.now c.args.place.now.steps c.loop-at.at s c.at-step.ensures c.loop-at.invariant c.after_value-spot.result
     (λ row rest fits stand.
-      let skipped = step_skips image c.args.first c.loop-at.spot c.args.types.now c.args.place.now.steps c.loop-at.at s c.at-step.ensures c.loop-at.invariant c.skip-there.result row rest (c.skip-there.ensures.stand image) fits stand in
-      let there = pairs_begin value_bytes value_fits image c.skip-there.result c.args.types.now row rest s.field c.at.result.now c.at.ensures fits skipped in
-      c.after_value-spot.ensures there.0 (row_bytes (drop (s.field + 1) c.args.types.now) (drop (s.field + 1) row) ++ rest) there.1 there.2)
+    let skipped = step_skips image c.args.first c.loop-at.spot c.args.types.now c.args.place.now.steps c.loop-at.at s c.at-step.ensures c.loop-at.invariant c.skip-there.result row rest (c.skip-there.ensures.stand image) fits stand in
+    let there = pairs_begin value_bytes value_fits image c.skip-there.result c.args.types.now row rest s.field c.at.result.now c.at.ensures fits skipped in
+    c.after_value-spot.ensures there.0 (row_bytes (drop (s.field + 1) c.args.types.now) (drop (s.field + 1) row) ++ rest) there.1 there.2)
 
 pub skip-requires : goal.skip-requires
 skip-requires g c =
