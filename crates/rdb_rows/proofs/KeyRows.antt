@@ -1,6 +1,6 @@
 -- The keys of rows, field by field.
-use Rattle.std.proofs.Common.{◌≡◌, ◌<◌, ◌≤◌, ◌+◌, ◌++◌, zero, suc, ℕ, List, [], ◌∷◌, length, map, take, drop, fold, Bool, true, false, ◌&&◌, Option, Some, None, slice_get, refl, sym, ap, ap₂, subst, ◌∙◌, arith, append_assoc, length-append}
-use Rattle.std.specs.List.{filter_map, cons_option}
+use Rattle.std.proofs.Common.{◌≡◌, ◌<◌, ◌≤◌, ◌+◌, ◌++◌, zero, suc, ℕ, List, [], ◌∷◌, length, take, drop, fold, true, Option, Some, slice_get, refl, sym, ap, ap₂, subst, ◌∙◌, arith}
+use Rattle.std.specs.List.{cons_option}
 use Rattle.std.specs.Option.{option_map_or}
 use Rattle.std.specs.declared.cmp.Ordering.{Ordering}
 use Rattle.std.specs.declared.cmp.Ordering.TheVariants.{Less, Equal, Greater}
@@ -14,9 +14,8 @@ use Rattle.rdb_base.specs.Order.{row_order, value_order}
 use Rattle.rdb_schema.specs.declared.schema.FieldType.{FieldType}
 use Rattle.rdb_schema.specs.declared.types.ValueType.{ValueType}
 use Rattle.rdb_schema.specs.declared.types.ValueType.TheVariants as values
-use Rattle.rdb_schema.specs.Encoding.{leaf_bytes, value_bytes, row_bytes}
+use Rattle.rdb_schema.specs.Encoding.{value_bytes, row_bytes}
 use Rattle.rdb_schema.specs.Types.{value_fits, row_fits}
-use Rattle.rdb_schema.specs.Values.{leaf_holds}
 use Rattle.rdb_access.specs.Read.{read_leaf, read_value, read_values}
 use Rattle.rdb_access.specs.Walk.{after_value, after_values}
 use Rattle.rdb_access.proofs.Pairs.{first_of, second_of, drop_get}

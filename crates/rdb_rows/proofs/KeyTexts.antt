@@ -1,7 +1,6 @@
 -- Keys that are one text, or one box, where they stand.
-use Rattle.std.proofs.Common.{◌≡◌, ◌++◌, ◌∷◌, ℕ, List, length, drop, slice_get, ◌≤◌, Option, Some, IsSome, refl, sym, ap, ◌∙◌}
+use Rattle.std.proofs.Common.{◌≡◌, ◌++◌, ◌∷◌, ℕ, List, length, drop, slice_get, ◌≤◌, Option, Some, IsSome, sym, ap, ◌∙◌}
 use Rattle.std.specs.Option.{option_map_or}
-use Rattle.rdb_base.specs.declared.value.Rect.{Rect}
 use Rattle.rdb_base.specs.declared.value.Value.{Value}
 use Rattle.rdb_base.specs.declared.value.Value.TheVariants as value
 use Rattle.rdb_schema.specs.declared.types.ValueType.{ValueType}
@@ -12,7 +11,7 @@ use Rattle.rdb_cells.specs.Keys.{Version, text_of, box_of}
 use Rattle.rdb_rows.specs.declared.key_fields.KeyField.{KeyField}
 use Rattle.rdb_rows.specs.declared.spot.Spot.{Spot}
 use Rattle.rdb_rows.specs.Places.{numbers_in}
-use Rattle.rdb_rows.specs.RowKeys.{KeyShape, picked}
+use Rattle.rdb_rows.specs.RowKeys.{picked}
 use Rattle.rdb_rows.specs.RowSpots.{BeginsRow, IsLeafOf}
 use Rattle.rdb_rows.specs.Spots.{Stand, HasBytes}
 use Rattle.rdb_rows.proofs.KeyRows.{picked_at}

@@ -1,5 +1,5 @@
 -- A version with a key, and where its row begins.
-use Rattle.std.proofs.Common.{◌≡◌, ◌<◌, ◌≤◌, ◌+◌, ◌^◌, ◌++◌, ◌&&◌, ◌==◌, zero, suc, ℕ, List, slice_get, get_or, [], ◌∷◌, length, take, drop, Bool, true, false, Option, Some, None, IsSome, refl, sym, ap, ap₂, subst, ◌∙◌, arith, length-take}
+use Rattle.std.proofs.Common.{◌≡◌, ◌<◌, ◌≤◌, ◌++◌, ◌==◌, zero, suc, ℕ, List, slice_get, get_or, [], ◌∷◌, length, drop, true, Option, Some, None, IsSome, refl, sym, ap, ap₂, subst, ◌∙◌, arith, length-take}
 use Rattle.std.specs.Option.{option_map_or}
 use Rattle.std.proofs.lemmas.Bool.{false≢true, eqb-true}
 use Rattle.std.proofs.lemmas.List.{take-append-drop}
@@ -12,7 +12,6 @@ use Rattle.rdb_schema.specs.declared.schema.FieldType.{FieldType}
 use Rattle.rdb_schema.specs.declared.schema.FieldType.TheVariants as ty
 use Rattle.rdb_schema.specs.Values.{leaf_holds}
 use Rattle.rdb_schema.specs.Encoding.{leaf_bytes, row_bytes}
-use Rattle.rdb_schema.specs.Types.{row_fits}
 use Rattle.rdb_access.specs.Read.{read_values}
 use Rattle.rdb_access.proofs.Pairs.{first_of, second_of}
 use Rattle.rdb_pages.specs.declared.cell.Cell.{Cell}
@@ -20,7 +19,7 @@ use Rattle.rdb_cells.specs.Images.{Image}
 use Rattle.rdb_cells.specs.Keys.{Version, text_of, box_of}
 use Rattle.rdb_cells.specs.VersionFormat.{header_in}
 use Rattle.rdb_rows.specs.declared.spot.Spot.{Spot}
-use Rattle.rdb_rows.specs.KeyLaws.{none_some, IsKeyed, keyed_is}
+use Rattle.rdb_rows.specs.KeyLaws.{none_some, keyed_is}
 use Rattle.rdb_rows.specs.RowKeys.{KeyShape, bytes_from, same_bytes, row_at, keyed, version_at}
 use Rattle.rdb_rows.specs.Rows.{cells_for}
 use Rattle.rdb_rows.specs.RowSpots.{BeginsRow}

@@ -1,8 +1,8 @@
 -- Leaves where they stand in a row in cells.
-use Rattle.std.proofs.Common.{◌≡◌, ◌<◌, ◌≤◌, ◌+◌, ◌++◌, ◌⊎◌, zero, suc, ℕ, List, [], ◌∷◌, length, take, drop, min, get_or, Bool, true, false, Some, slice_get, inl, inr, refl, sym, ap, ap₂, subst, ◌∙◌, arith, append_assoc, length-append, length-drop, fold, nat_cmp}
+use Rattle.std.proofs.Common.{◌≡◌, ◌<◌, ◌≤◌, ◌+◌, ◌++◌, zero, suc, ℕ, List, [], ◌∷◌, length, drop, min, get_or, Bool, true, false, inl, inr, refl, sym, ap, ap₂, subst, ◌∙◌, arith, length-append, nat_cmp}
 use Rattle.std.proofs.lemmas.Bool.{false≢true, cases_lt}
 use Rattle.std.proofs.lemmas.Bool.Decides.{nat_tests}
-use Rattle.std.proofs.lemmas.List.{drop_more, take_at, drop_at}
+use Rattle.std.proofs.lemmas.List.{drop_more}
 use Rattle.std.specs.Cmp.Lexicographic.{slice_cmp}
 use Rattle.std.specs.Ordering.{ordering_then}
 use Rattle.std.specs.declared.cmp.Ordering.{Ordering}
@@ -21,7 +21,7 @@ use Rattle.rdb_cells.specs.Images.{Image}
 use Rattle.rdb_rows.specs.declared.spot.Spot.{Spot}
 use Rattle.rdb_rows.specs.Spots.{Stand, HasBytes, HasText, BeginsLeaf}
 use Rattle.rdb_rows.proofs.SpotLemmas.{has_bytes}
-use Rattle.rdb_rows.proofs.WalkLemmas.{number_length, rect_long, text_is, text_stand}
+use Rattle.rdb_rows.proofs.WalkLemmas.{number_length, rect_long}
 
 -- two lists of bytes, from a place on
 pub compared : (xs ys : List ℕ) (i : ℕ) → i < length xs → i < length ys → slice_cmp nat_cmp (drop i xs) (drop i ys) ≡ ordering_then (nat_cmp (get_or xs i 0) (get_or ys i 0)) (slice_cmp nat_cmp (drop (i + 1) xs) (drop (i + 1) ys))

@@ -1,7 +1,6 @@
 -- Sizes of values, and the places of fields.
-use Rattle.std.proofs.Common.{◌≡◌, ◌<◌, ◌≤◌, ◌+◌, ◌++◌, zero, suc, ℕ, List, [], ◌∷◌, length, drop, Bool, true, false, ◌&&◌, Some, slice_get, refl, sym, ap, ap₂, subst, ◌∙◌, arith, append_assoc, length-append, add-one}
+use Rattle.std.proofs.Common.{◌≡◌, ◌<◌, ◌+◌, ◌++◌, zero, suc, ℕ, List, [], ◌∷◌, length, drop, Bool, true, Some, slice_get, refl, sym, ap, subst, ◌∙◌, arith, append_assoc, length-append}
 use Rattle.std.proofs.lemmas.Bool.{false≢true}
-use Rattle.std.proofs.lemmas.List.{drop-drop}
 use Rattle.rdb_base.specs.declared.value.Leaf.{Leaf}
 use Rattle.rdb_base.specs.declared.value.Value.{Value}
 use Rattle.rdb_schema.specs.declared.schema.FieldType.{FieldType}
@@ -10,12 +9,11 @@ use Rattle.rdb_schema.specs.declared.types.ValueType.TheVariants as values
 use Rattle.rdb_base.specs.declared.value.Value.TheVariants as value
 use Rattle.std.specs.Prelude.{Option, None, IfSome}
 use Rattle.rdb_schema.specs.Encoding.{leaf_bytes, leaves_bytes, value_bytes, row_bytes, pairs_bytes}
-use Rattle.rdb_schema.specs.Types.{all_pairs, value_fits, row_fits}
+use Rattle.rdb_schema.specs.Types.{all_pairs, value_fits}
 use Rattle.rdb_schema.specs.Values.{leaf_holds}
 use Rattle.rdb_access.proofs.Pairs.{first_of, second_of, drop_get}
 use Rattle.rdb_rows.specs.declared.places.Step.{Step}
-use Rattle.rdb_rows.specs.declared.places.Place.{Place}
-use Rattle.rdb_rows.specs.Places.{IsBetween, AreApart, AreSteps, behind, IsPlace}
+use Rattle.rdb_rows.specs.Places.{AreApart, AreSteps, behind}
 
 -- two lists of pairs that pass a test, from a place on
 module _ {A B : Type 0} (test : A → B → Bool) where

@@ -1,12 +1,11 @@
 -- What keys say of versions that stand in an image.
-use Rattle.std.proofs.Common.{◌≡◌, ◌<◌, ◌≤◌, ◌+◌, ◌*◌, ◌/◌, ◌%◌, ◌++◌, ◌&&◌, ◌==◌, zero, suc, ℕ, List, [], ◌∷◌, length, take, Bool, true, false, Option, Some, None, refl, sym, ap, ap₂, subst, ◌∙◌, arith, eq-eqb}
+use Rattle.std.proofs.Common.{◌≡◌, ◌++◌, ◌&&◌, ℕ, List, [], ◌∷◌, length, take, Bool, true, Option, Some, None, refl, sym, ap, ap₂, subst, ◌∙◌, arith, eq-eqb}
 use Rattle.std.specs.Prelude.{if◌then◌else◌}
 use Rattle.std.specs.Option.{option_map, option_map_or, option_and_then}
 use Rattle.rdb_base.specs.declared.value.Value.{Value}
 use Rattle.rdb_schema.specs.declared.types.ValueType.{ValueType}
 use Rattle.rdb_schema.specs.Encodes.{Encodes}
 use Rattle.rdb_schema.specs.Encoding.{row_bytes}
-use Rattle.rdb_schema.specs.Types.{row_fits}
 use Rattle.rdb_access.specs.Read.{read_values}
 use Rattle.rdb_access.proofs.Decoding.{row_back}
 use Rattle.rdb_pages.specs.declared.cell.Cell.{Cell}
@@ -15,13 +14,13 @@ use Rattle.rdb_cells.specs.declared.kind.Kind.TheVariants as kind
 use Rattle.rdb_cells.specs.Images.{Image}
 use Rattle.rdb_cells.specs.Keys.{Version as Keyed}
 use Rattle.rdb_cells.specs.Links.{Placed, Stand, elements, segment, start}
-use Rattle.rdb_cells.specs.RowFormat.{row_cell, row_in}
+use Rattle.rdb_cells.specs.RowFormat.{row_in}
 use Rattle.rdb_cells.specs.VersionFormat.{header_cell, header_in}
 use Rattle.rdb_cells.specs.Words.{IsOfKind}
 use Rattle.rdb_rows.specs.KeyLaws.{is_of_kind}
 use Rattle.rdb_rows.specs.KeySayings.{keyed_by, said_of}
 use Rattle.rdb_rows.specs.RowKeys.{KeyShape, picked, of_kind, bytes_from, same_bytes, if_encoded, row_of, row_at, keyed, version_of_header, version_at}
-use Rattle.rdb_rows.specs.Rows.{cells_for, row_parts, IsPart, HoldsRow}
+use Rattle.rdb_rows.specs.Rows.{cells_for, IsPart, HoldsRow}
 use Rattle.rdb_rows.specs.Versions.{Version, is_tombstone, bytes_in, header_of, HoldsVersion}
 use Rattle.rdb_rows.proofs.Chains.{chain_length, part_read, the_number}
 use Rattle.rdb_rows.proofs.Headers.{header_back}

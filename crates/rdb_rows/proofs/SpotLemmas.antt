@@ -1,5 +1,5 @@
 -- Bytes that stand from a spot on.
-use Rattle.std.proofs.Common.{◌≡◌, ◌<◌, ◌≤◌, ◌+◌, ◌-◌, ◌*◌, ◌^◌, ◌++◌, zero, suc, ℕ, List, [], ◌∷◌, length, take, drop, get_or, set, Option, Some, None, refl, sym, ap, ap₂, subst, ◌∙◌, arith, length-append, length-drop, length-take}
+use Rattle.std.proofs.Common.{◌≡◌, ◌<◌, ◌≤◌, ◌+◌, ◌-◌, ◌*◌, ◌++◌, zero, suc, ℕ, List, [], ◌∷◌, length, take, drop, get_or, set, Option, Some, None, refl, sym, ap, ap₂, subst, ◌∙◌, arith, length-append, length-drop}
 use Rattle.std.specs.Prelude.{slice_index}
 use Rattle.std.specs.Prelude.{ℤ, pos, Bool, true, false, if◌then◌else◌}
 use Rattle.std.specs.Int.{w32, to_le_bytes, cast_signed}
@@ -11,7 +11,7 @@ use Rattle.rdb_access.specs.Read.{edge_from}
 use Rattle.rdb_access.proofs.Reading.{room_test}
 use Rattle.std.specs.List.{flat_map}
 use Rattle.std.specs.Option.{option_map_or}
-use Rattle.std.proofs.lemmas.List.{drop-drop, drop-append-le, take-append-drop, length-take-le, get_or-drop, get_or_append_left, drop_more, take_more, take_more_set, length_push}
+use Rattle.std.proofs.lemmas.List.{drop-drop, drop-append-le, take-append-drop, length-take-le, get_or-drop, get_or_append_left, take_more, take_more_set}
 use Rattle.rdb_pages.specs.declared.cell.Cell.{Cell}
 use Rattle.rdb_cells.specs.declared.kind.Kind.TheVariants as kind
 use Rattle.rdb_cells.specs.Images.{Image}

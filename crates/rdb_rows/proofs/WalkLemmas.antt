@@ -1,5 +1,5 @@
 -- Steps behind the values of a row in cells.
-use Rattle.std.proofs.Common.{◌≡◌, ◌<◌, ◌≤◌, ◌+◌, ◌-◌, ◌++◌, zero, suc, ℕ, List, [], ◌∷◌, length, take, drop, Bool, true, false, ◌&&◌, Some, slice_get, refl, sym, ap, subst, ◌∙◌, arith, append_assoc, length-append, length-drop}
+use Rattle.std.proofs.Common.{◌≡◌, ◌<◌, ◌≤◌, ◌+◌, ◌++◌, zero, suc, ℕ, List, [], ◌∷◌, length, drop, Bool, true, Some, slice_get, refl, sym, ap, subst, ◌∙◌, arith, append_assoc, length-append}
 use Rattle.std.specs.List.{flat_map, list_all}
 use Rattle.std.specs.Prelude.{nat_le}
 use Rattle.std.proofs.lemmas.List.{drop_at, drop_all}
@@ -27,9 +27,8 @@ use Rattle.rdb_cells.specs.Images.{Image}
 use Rattle.rdb_rows.specs.declared.spot.Spot.{Spot}
 use Rattle.rdb_rows.specs.declared.places.Place.{Place}
 use Rattle.rdb_rows.specs.declared.places.Step.{Step}
-use Rattle.rdb_rows.specs.Places.{IsBetween, AreApart, AreSteps, behind, IsPlace}
-use Rattle.rdb_rows.specs.Spots.{Stand, HasBytes, Leads}
-use Rattle.rdb_rows.proofs.SpotLemmas.{has_bytes, skip_stand}
+use Rattle.rdb_rows.specs.Places.{IsBetween, AreSteps, behind, IsPlace}
+use Rattle.rdb_rows.specs.Spots.{Stand, Leads}
 
 -- behind so many bytes in front stands what is left
 pub skip_front : (image : Image) (spot after : Spot) (many : ℕ) (front rest : List ℕ) → length front ≡ many → ((bytes : List ℕ) → many ≤ length bytes → Stand image spot bytes → Stand image after (drop many bytes)) → Stand image spot (front ++ rest) → Stand image after rest

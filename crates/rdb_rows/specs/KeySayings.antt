@@ -1,5 +1,5 @@
 -- What keys say of a version, by the version alone.
-use Rattle.std.specs.Prelude.{◌≡◌, ℕ, List, Option, Some, None}
+use Rattle.std.specs.Prelude.{List, Option}
 use Rattle.std.specs.Option.{option_map, option_and_then}
 use Rattle.rdb_base.specs.declared.value.Value.{Value}
 use Rattle.rdb_cells.specs.Keys.{Version as Keyed}

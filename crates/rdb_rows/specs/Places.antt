@@ -1,5 +1,5 @@
 -- Where fields begin in a row's bytes: the fields of one size are joined into offsets, and those that vary in size are steps.
-use Rattle.std.specs.Prelude.{◌≡◌, ◌<◌, ◌≤◌, ℕ, suc, map, List, [], ◌∷◌, ◌++◌, length, drop, slice_get, Some, true}
+use Rattle.std.specs.Prelude.{◌≡◌, ◌<◌, ℕ, suc, map, List, [], ◌∷◌, ◌++◌, length, drop, slice_get, Some, true}
 use Rattle.rdb_base.specs.declared.value.Value.{Value}
 use Rattle.rdb_schema.specs.declared.types.ValueType.{ValueType}
 use Rattle.rdb_schema.specs.declared.types.ValueType.TheVariants as values
@@ -8,7 +8,6 @@ use Rattle.rdb_schema.specs.Types.{row_fits}
 use Rattle.rdb_rows.specs.declared.places.Step.{Step}
 use Rattle.rdb_rows.specs.declared.places.Place.{Place}
 use Rattle.rdb_rows.specs.declared.key_fields.KeyField.{KeyField}
-use Rattle.rdb_rows.specs.RowKeys.{KeyShape}
 
 -- in a row these bytes stand between where one field begins and where another does
 pub record IsBetween (types : List ValueType) (row : List Value) (start end offset : ℕ) : Type 0 where

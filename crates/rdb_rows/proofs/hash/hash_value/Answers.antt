@@ -1,4 +1,4 @@
-use Rattle.std.proofs.Common.{◌≡◌, ◌∙◌, ℕ, List, fold, sym, ap, ap₂}
+use Rattle.std.proofs.Common.{◌∙◌, ℕ, List, fold, sym, ap, ap₂}
 use Rattle.rdb_schema.specs.Encoding.{leaf_bytes}
 use Rattle.rdb_cells.specs.Keys.{fnv_step}
 use Rattle.rdb_rows.proofs.hash.hash_value.Goals as goal

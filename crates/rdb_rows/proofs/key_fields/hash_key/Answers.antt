@@ -1,4 +1,4 @@
-use Rattle.std.proofs.Common.{◌≡◌, ◌≤◌, ◌+◌, List, [], drop, length, true, fold, sym, ap, subst, refl, ◌∙◌, arith}
+use Rattle.std.proofs.Common.{◌≡◌, ◌+◌, drop, true, fold, sym, ap, subst, ◌∙◌}
 use Rattle.rdb_base.specs.declared.value.Value.{Value}
 use Rattle.rdb_schema.specs.declared.types.ValueType.TheVariants as values
 use Rattle.rdb_schema.specs.Encoding.{row_bytes, value_bytes}

@@ -1,4 +1,4 @@
-use Rattle.std.proofs.Common.{◌≡◌, ℕ, List, drop, fold}
+use Rattle.std.proofs.Common.{◌≡◌, List, drop, fold}
 use Rattle.rdb_base.specs.declared.value.Value.{Value}
 use Rattle.rdb_schema.specs.Encoding.{row_bytes}
 use Rattle.rdb_cells.specs.Keys.{fnv_step, fnv1a}

@@ -1,4 +1,4 @@
-use Rattle.std.proofs.Common.{◌≡◌, ℕ, List, take}
+use Rattle.std.proofs.Common.{◌≡◌, take}
 use Rattle.rdb_rows.specs.Places.{numbers_in, AreKeyFields}
 use Rattle.rdb_rows.proofs.key_fields.key_fields.Given as goal
 

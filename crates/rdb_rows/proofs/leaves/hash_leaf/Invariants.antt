@@ -1,4 +1,4 @@
-use Rattle.std.proofs.Common.{◌≡◌, ◌++◌, ℕ, List, length, drop, fold}
+use Rattle.std.proofs.Common.{◌≡◌, ◌++◌, drop, fold}
 use Rattle.rdb_base.specs.declared.value.Leaf.{Leaf}
 use Rattle.rdb_schema.specs.Encoding.{leaf_bytes}
 use Rattle.rdb_cells.specs.Keys.{fnv_step}

@@ -1,4 +1,4 @@
-use Rattle.std.proofs.Common.{◌≡◌, ◌+◌, ◌++◌, ◌∷◌, ℕ, List, length, sym, ap, ◌∙◌, arith}
+use Rattle.std.proofs.Common.{◌≡◌, ◌++◌, ◌∷◌, ℕ, List, length, ap, ◌∙◌, arith}
 use Rattle.rdb_rows.proofs.SpotLemmas.{has_bytes}
 use Rattle.rdb_rows.proofs.LeafSpots.{words_there}
 use Rattle.rdb_rows.proofs.leaves.leaf_length.Goals as goal

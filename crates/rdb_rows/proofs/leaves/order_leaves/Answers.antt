@@ -1,9 +1,7 @@
-use Rattle.std.proofs.Common.{◌≡◌, ◌∙◌, ◌++◌, ℕ, List, length, sym, ap, ap₂, arith}
-use Rattle.std.specs.Prelude.{ℤ}
+use Rattle.std.proofs.Common.{◌∙◌, sym, ap₂, arith}
 use Rattle.std.specs.Int.{w128}
 use Rattle.std.specs.Ordering.{int_cmp}
 use Rattle.std.proofs.lemmas.Int.{ints, to_z-of_z}
-use Rattle.rdb_base.specs.declared.value.Rect.{Rect}
 use Rattle.rdb_base.specs.Order.{leaf_order, rect_order}
 use Rattle.rdb_rows.proofs.SpotLemmas.{has_bytes}
 use Rattle.rdb_rows.proofs.LeafSpots.{number_room, number_there, rect_room, rect_there, words_there}

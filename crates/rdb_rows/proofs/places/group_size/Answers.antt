@@ -1,5 +1,4 @@
-use Rattle.std.proofs.Common.{subst, sym}
-use Rattle.rdb_rows.proofs.PlaceLemmas.{AreSized, none_sized, sized_more}
+use Rattle.rdb_rows.proofs.PlaceLemmas.{sized_more}
 use Rattle.rdb_rows.proofs.places.group_size.Goals as goal
 
 pub loop-at-preserved : goal.loop-at-preserved

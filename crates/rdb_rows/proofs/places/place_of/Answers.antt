@@ -1,6 +1,5 @@
-use Rattle.std.proofs.Common.{◌≡◌, ◌<◌, ◌+◌, ℕ, List, [], ◌∷◌, ◌++◌, length, sym, ap, ap₂, subst, ◌∙◌, arith, rules}
-use Rattle.rdb_rows.specs.declared.places.Step.{Step}
-use Rattle.rdb_rows.proofs.PlaceLemmas.{IsPlacing, placing_passes, placing_steps}
+use Rattle.std.proofs.Common.{◌<◌, arith}
+use Rattle.rdb_rows.proofs.PlaceLemmas.{placing_passes, placing_steps}
 use Rattle.rdb_rows.proofs.places.place_of.Goals as goal
 use Rattle.rdb_rows.proofs.places.place_of.Goals.{in-Some, in-None+in_ok-push-in-None}
 

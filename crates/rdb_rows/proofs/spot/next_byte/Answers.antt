@@ -1,5 +1,4 @@
-use Rattle.std.proofs.Common.{◌≡◌, ◌<◌, ◌≤◌, ◌+◌, ◌++◌, ◌∷◌, List, ℕ, length, drop, length-append, refl, ap, subst, ◌∙◌, arith}
-use Rattle.rdb_rows.specs.Spots.{Stand}
+use Rattle.std.proofs.Common.{◌++◌, ◌∷◌, length-append, ◌∙◌, arith}
 use Rattle.rdb_rows.proofs.Puttings.{a_cell}
 use Rattle.rdb_rows.proofs.SpotLemmas.{has_cell, byte_stand}
 use Rattle.rdb_rows.proofs.spot.next_byte.Goals as goal

@@ -1,4 +1,4 @@
-use Rattle.std.proofs.Common.{◌≡◌, ◌<◌, ◌≤◌, ◌+◌, ◌++◌, ◌∷◌, List, ℕ, length, take, drop, set, length-set, get_or, length-append, length-drop, refl, ap, subst, ◌∙◌, arith}
+use Rattle.std.proofs.Common.{◌≡◌, ◌<◌, ◌+◌, ◌++◌, take, drop, set, length-set, get_or, length-append, length-drop, refl, subst, ◌∙◌, arith}
 use Rattle.std.proofs.lemmas.List.{drop_more}
 use Rattle.rdb_rows.specs.Spots.{Stand}
 use Rattle.rdb_rows.proofs.SpotLemmas.{has_bytes, bytes_more}

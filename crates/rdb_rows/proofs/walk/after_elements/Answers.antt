@@ -1,4 +1,4 @@
-use Rattle.std.proofs.Common.{◌≡◌, ◌<◌, ◌≤◌, ◌+◌, ◌++◌, List, ℕ, drop, length, arith}
+use Rattle.std.proofs.Common.{◌<◌, ◌+◌, ◌++◌, drop, arith}
 use Rattle.std.specs.List.{flat_map}
 use Rattle.rdb_schema.specs.Encoding.{element_bytes}
 use Rattle.rdb_rows.proofs.WalkLemmas.{element_begin, elements_end}

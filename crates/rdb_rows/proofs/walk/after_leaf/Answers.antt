@@ -1,4 +1,4 @@
-use Rattle.std.proofs.Common.{◌≡◌, ◌<◌, ◌≤◌, ◌+◌, ◌++◌, ◌∷◌, ℕ, List, length, refl, sym, ap, subst, ◌∙◌, arith}
+use Rattle.std.proofs.Common.{◌++◌, ◌∷◌, length, refl, sym, ◌∙◌, arith}
 use Rattle.rdb_schema.specs.Encoding.{leaf_bytes}
 use Rattle.rdb_rows.proofs.SpotLemmas.{has_bytes}
 use Rattle.rdb_rows.proofs.WalkLemmas.{skip_front, room_for, text_stand, number_length}

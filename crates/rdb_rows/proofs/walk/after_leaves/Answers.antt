@@ -1,4 +1,4 @@
-use Rattle.std.proofs.Common.{◌≡◌, ◌≤◌, ◌+◌, ◌++◌, List, ℕ, drop, length, arith}
+use Rattle.std.proofs.Common.{◌+◌, ◌++◌, drop, arith}
 use Rattle.rdb_schema.specs.Encoding.{leaf_bytes, leaves_bytes}
 use Rattle.rdb_schema.specs.Values.{leaf_holds}
 use Rattle.rdb_rows.proofs.WalkLemmas.{pairs_begin, pairs_end}

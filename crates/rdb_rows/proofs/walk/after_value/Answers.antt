@@ -1,4 +1,4 @@
-use Rattle.std.proofs.Common.{◌≡◌, ◌++◌, ◌∷◌, ℕ, List, length, sym, ◌∙◌, subst, arith}
+use Rattle.std.proofs.Common.{◌++◌, ◌∷◌, length, sym, ◌∙◌, arith}
 use Rattle.std.specs.List.{flat_map}
 use Rattle.rdb_schema.specs.Encoding.{element_bytes}
 use Rattle.rdb_rows.proofs.SpotLemmas.{has_bytes}

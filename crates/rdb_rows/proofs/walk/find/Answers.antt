@@ -1,7 +1,7 @@
-use Rattle.std.proofs.Common.{◌≡◌, ◌≤◌, ◌+◌, ◌++◌, ℕ, List, drop, length, arith}
+use Rattle.std.proofs.Common.{◌+◌, ◌++◌, drop, arith}
 use Rattle.rdb_schema.specs.Encoding.{value_bytes, row_bytes}
 use Rattle.rdb_schema.specs.Types.{value_fits}
-use Rattle.rdb_rows.proofs.WalkLemmas.{finding_begins, step_room, step_within, step_skips, step_more, place_room, place_found, pairs_begin}
+use Rattle.rdb_rows.proofs.WalkLemmas.{step_room, step_within, step_skips, step_more, place_room, place_found, pairs_begin}
 use Rattle.rdb_rows.proofs.walk.find.Goals as goal
 
 pub skip-there-requires : goal.skip-there-requires

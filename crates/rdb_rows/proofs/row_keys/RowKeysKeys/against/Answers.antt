@@ -1,4 +1,4 @@
-use Rattle.std.proofs.Common.{◌≡◌, ◌∙◌, ℕ, Option, sym, ap, ap₂, nat_cmp}
+use Rattle.std.proofs.Common.{◌∙◌, ℕ, Option, sym, ap, ap₂, nat_cmp}
 use Rattle.std.specs.Ordering.{ordering_then}
 use Rattle.rdb_cells.specs.Keys.{key_order}
 use Rattle.rdb_rows.specs.Places.{numbers_in}

@@ -1,5 +1,5 @@
-use Rattle.std.proofs.Common.{◌≡◌, ◌∙◌, ◌∷◌, ◌++◌, ◌<◌, ◌≤◌, ◌+◌, ℕ, List, Some, None, length, drop, take, get_or, slice_get, sym, ap, subst, arith, length-append}
-use Rattle.std.proofs.lemmas.List.{drop-append-le, length-take-le, take-append-drop}
+use Rattle.std.proofs.Common.{◌∙◌, ◌∷◌, ◌++◌, ◌<◌, ◌≤◌, ◌+◌, ℕ, List, Some, length, drop, get_or, slice_get, sym, ap, subst, arith, length-append}
+use Rattle.std.proofs.lemmas.List.{drop-append-le}
 use Rattle.rdb_cells.specs.Keys.{Version, text_of}
 use Rattle.rdb_rows.specs.Places.{numbers_in}
 use Rattle.rdb_rows.specs.RowKeys.{KeyShape}

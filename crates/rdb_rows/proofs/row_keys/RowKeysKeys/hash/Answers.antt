@@ -1,4 +1,4 @@
-use Rattle.std.proofs.Common.{◌≡◌, ◌∙◌, List, sym, ap, ap₂}
+use Rattle.std.proofs.Common.{◌∙◌, List, sym, ap, ap₂}
 use Rattle.rdb_base.specs.declared.value.Value.{Value}
 use Rattle.rdb_schema.specs.Encoding.{row_bytes}
 use Rattle.rdb_cells.specs.Keys.{Version, fnv1a}

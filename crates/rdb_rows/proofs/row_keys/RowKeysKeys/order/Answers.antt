@@ -1,4 +1,4 @@
-use Rattle.std.proofs.Common.{◌≡◌, ◌∙◌, sym, ap₂}
+use Rattle.std.proofs.Common.{◌∙◌, sym, ap₂}
 use Rattle.std.specs.Ordering.{ordering_then}
 use Rattle.rdb_cells.specs.Keys.{version_order}
 use Rattle.rdb_rows.specs.Places.{numbers_in}

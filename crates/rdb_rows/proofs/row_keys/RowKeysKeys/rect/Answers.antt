@@ -1,4 +1,4 @@
-use Rattle.std.proofs.Common.{◌≡◌, ◌∙◌, Some, sym, ap}
+use Rattle.std.proofs.Common.{◌∙◌, Some, sym, ap}
 use Rattle.rdb_cells.specs.Keys.{Version, box_of}
 use Rattle.rdb_rows.specs.Places.{numbers_in}
 use Rattle.rdb_rows.specs.RowKeys.{KeyShape}

@@ -1,6 +1,5 @@
-use Rattle.std.proofs.Common.{◌≡◌, ◌∙◌, refl, sym, ap}
+use Rattle.std.proofs.Common.{◌∙◌, refl, sym, ap}
 use Rattle.std.proofs.lemmas.Bool.{false≢true}
-use Rattle.rdb_base.specs.Order.{row_order}
 use Rattle.rdb_base.proofs.OrderLemmas.{row_level}
 use Rattle.rdb_cells.specs.Keys.{Version}
 use Rattle.rdb_cells.proofs.KeyLemmas.{level_when_equal}
