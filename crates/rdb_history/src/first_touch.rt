@@ -7,8 +7,10 @@ ghost use Rattle.rdb_base.specs.declared.identity.Kind.TheVariants as kind;
 ghost use Rattle.rdb_model.specs.Fits.{Fits, AllFit};
 ghost use Rattle.rdb_model.specs.Journal.{commits};
 ghost use Rattle.rdb_model.specs.Touch.{rests};
+ghost use Rattle.rdb_history.specs.Classes.{LooksAt};
 ghost use Rattle.rdb_history.specs.RowTouch.{rests_on_row, touches_by_rows, touched_by_rows, IsFirstTouch, IsUntouched};
 
+use crate::classes::{are_apart, classes_looked_at};
 use crate::journal::{Change, Journal};
 use rdb_base::journal::Story;
 use rdb_base::operation::{Op, Reply};
@@ -55,8 +57,16 @@ fn touches(schema: &Schema, journal: &Journal, commit: u64, op: &Op, told: &Repl
     false
 }
 
-// The first operation of a story, from 1, that the commit of a number touches.
-fn touched_operation(schema: &Schema, journal: &Journal, commit: u64, story: &Story) -> Option<u32>
+// The first operation of a story, from 1, that the commit of a number touches. A commit of none of the classes that the story looks at is
+// passed by in one step.
+fn touched_operation(
+    schema: &Schema,
+    journal: &Journal,
+    commit: u64,
+    story: &Story,
+    looked_at: u64,
+) -> Option<u32>
+    requires looked_at { LooksAt looked_at story.now.done }
     requires fits { AllFit schema.now kind.ReadWrite story.now.done }
     requires few { length story.now.done < 2 ^ 32 }
     requires first { 0 < commit }
@@ -66,6 +76,9 @@ fn touched_operation(schema: &Schema, journal: &Journal, commit: u64, story: &St
         × ((k : ℕ) → 0 < k → k < operation → touched_by_rows schema.now journal.now.entries commit story.now k ≡ false)) }
     ensures none { IfNone result ((k : ℕ) → touched_by_rows schema.now journal.now.entries commit story.now k ≡ false) }
 {
+    if are_apart(journal.classes(commit), looked_at) {
+        return None;
+    }
     for place in 0..story.done.len() {
         let (op, told) = story.done.at(place);
         if touches(schema, journal, commit, op, told) {
@@ -77,16 +90,18 @@ fn touched_operation(schema: &Schema, journal: &Journal, commit: u64, story: &St
 
 /// The first commit above a story's snapshot that touches it, and the first of its operations that this commit touches, from 1; or
 /// none, where no commit above its snapshot touches it. It takes no memory. The cost grows with the commits above the snapshot, each
-/// by the objects that it wrote times the operations of the story, and not with the journal.
+/// by the objects that it wrote times the operations of the story, and not with the journal before; a commit of none of the classes that
+/// the story looks at is passed by in one step.
 pub fn first_touch(schema: &Schema, journal: &Journal, story: &Story) -> Option<(u64, u32)>
     requires fits { AllFit schema.now kind.ReadWrite story.now.done }
     requires few { length story.now.done < 2 ^ 32 }
     ensures some { IfSome result (λ touch. IsFirstTouch schema.now journal.now.entries story.now touch.0 touch.1) }
     ensures none { IfNone result (IsUntouched schema.now journal.now.entries story.now) }
 {
+    let looked_at = classes_looked_at(&story.done);
     for seen in story.snapshot..journal.commits() {
         let commit = seen + 1;
-        if let Some(operation) = touched_operation(schema, journal, commit, story) {
+        if let Some(operation) = touched_operation(schema, journal, commit, story, looked_at) {
             return Some((commit, operation));
         }
     }

@@ -7,7 +7,7 @@
 //! | each of its writes | where the object was last written before the commit, if it was, and where by the commit   |
 //! | each object        | the number of its newest write                                                           |
 
-ghost use Rattle.std.specs.Prelude.{◌≡◌, ◌+◌, ◌-◌, ◌<◌, ◌≤◌, ◌==◌, [], ◌∷◌, ◌++◌, length, slice_get, OnOk, OnErr, IsSome, Some, option_and_then};
+ghost use Rattle.std.specs.Prelude.{◌≡◌, ◌+◌, ◌-◌, ◌<◌, ◌≤◌, ◌==◌, [], ◌∷◌, ◌++◌, length, take, slice_get, OnOk, OnErr, IsSome, Some, option_and_then};
 ghost use Rattle.std.specs.List.{filter_map};
 ghost use Rattle.std.specs.Option.{option_copied};
 ghost use Rattle.rdb_model.specs.Journal.{commits, committed, done_of};
@@ -124,13 +124,14 @@ impl Journal {
     }
 
     /// Appends an entry into reserved room. Of a commit it keeps what it wrote, and gives back the room of writes beyond the first of an
-    /// object. It takes no memory; the cost grows with the operations of a commit, and is constant for other entries.
+    /// object, so that what it leaves to others is at least what they reserved. It takes no memory; the cost grows with the operations of a commit, and is constant for other entries.
     pub fn append(&mut self, entry: Entry)
         requires room { 0 < self.old.room }
         requires write_room { length (filter_map written_by (done_of entry)) ≤ self.old.write_room }
         ensures entries { self.new.entries ≡ self.old.entries ++ entry ∷ [] }
         ensures room { self.new.room ≡ self.old.room - 1 }
         ensures write_room { self.new.write_room ≡ self.old.write_room - length (objects_written (done_of entry)) }
+        ensures left { self.old.write_room ≤ self.new.write_room + length (filter_map written_by (done_of entry)) }
     {
         let place = self.entries.len();
         self.entries.append(entry);
@@ -194,7 +195,8 @@ impl Journal {
     pub fn place(&self, commit: u64) -> usize
         requires first { 0 < commit }
         requires there { commit ≤ commits self.now.entries }
-        ensures { option_and_then committed (slice_get self.now.entries result) ≡ Some (done_in self.now.entries commit) }
+        ensures done { option_and_then committed (slice_get self.now.entries result) ≡ Some (done_in self.now.entries commit) }
+        ensures earlier { commits (take result self.now.entries) ≡ commit - 1 }
     {
         self.commits.at(commit as usize - 1).entry
     }
