@@ -1,7 +1,6 @@
 //! Sets of classes: a bit for each modulo 64, so that most commits of other classes are passed by in one step.
 
-ghost use Rattle.std.specs.Prelude.{◌≡◌, ◌^◌, ◌%◌, ◌==◌};
-ghost use Rattle.std.specs.Int.{bit_and};
+ghost use Rattle.std.specs.Prelude.{◌≡◌, ◌^◌, ◌%◌, ◌==◌, bit_and};
 ghost use Rattle.rdb_history.specs.Classes.{LooksAt};
 
 use rdb_base::journal::Done;
