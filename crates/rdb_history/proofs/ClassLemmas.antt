@@ -1,10 +1,10 @@
 -- What is of a class of one set is of none of a set that has nothing in common with it.
-use Rattle.std.proofs.Common.{◌≡◌, ℕ, suc, ◌+◌, ◌-◌, ◌<◌, ◌≤◌, ◌%◌, ◌^◌, ◌==◌, Bool, true, false, cond, ◌&&◌, ◌||◌, List, [], ◌∷◌, length, slice_get, filter_map, Option, Some, None, min, max, bit_and, refl, sym, ap, subst, ◌∙◌, arith}
+use Rattle.std.proofs.Common.{◌≡◌, ℕ, suc, ◌+◌, ◌-◌, ◌<◌, ◌≤◌, ◌%◌, ◌^◌, ◌==◌, Bool, true, false, cond, ◌&&◌, ◌||◌, List, [], ◌∷◌, length, take, slice_get, filter_map, Option, Some, None, min, max, bit_and, bit_or, refl, sym, ap, subst, ◌∙◌, arith, inl, inr, ◌⊎◌}
 use Rattle.std.specs.List.{list_any}
 use Rattle.std.specs.Option.{option_map_or}
 use Rattle.std.specs.Int.{bit_at}
 use Rattle.std.proofs.lemmas.Bool.Decides.{nat_tests}
-use Rattle.std.proofs.lemmas.Nat.Bits.{bit_at_and, bit_at-zero}
+use Rattle.std.proofs.lemmas.Nat.Bits.{bit_at_and, bit_at_or, bit_at-zero, bit_at-pow_same}
 use Rattle.rdb_base.specs.Operations.{class_of}
 use Rattle.rdb_base.specs.declared.operation.Op.{Op}
 use Rattle.rdb_base.specs.declared.operation.Reply.{Reply}
@@ -17,6 +17,7 @@ use Rattle.rdb_history.specs.Rows.{last_row, done_in}
 use Rattle.rdb_history.specs.RowTouch.{rests_on_change, touches_by_rows, touched_by_rows}
 use Rattle.rdb_history.specs.Kept.{HasClasses}
 use Rattle.rdb_history.specs.Classes.{HasClass, LooksAt}
+use Rattle.rdb_history.proofs.ListLemmas.{get_pushed, take_more}
 
 -- two sets that are apart don't both have a class
 pub not_in_both : (classes others class : ℕ) → (bit_and classes others == 0) ≡ true → HasClass classes class → HasClass others class → ⊥
@@ -56,6 +57,30 @@ below_64 n = omega arith
 pub has_class : (classes : ℕ) (done : List (Op × Reply)) (object : ℕ × ℕ) → HasClasses classes done → was_written done object ≡ true → HasClass classes object.0
 has_class classes done object has written =
     has (object.0 % 64) (below_64 object.0) ∙ ap (λ b. cond b 1 0) (any_class (filter_map written_by done) object written)
+
+-- a set with one class more
+bit_is : (n i : ℕ) → bit_at n i ≤ 1
+bit_is n i = omega arith
+
+pub looks_more : (classes own place : ℕ) (done : List (Op × Reply)) (d : Op × Reply) → slice_get done place ≡ Some d → own ≡ 2 ^ (class_of d.0 % 64) → LooksAt classes (take place done) → LooksAt (bit_or classes own) (take (place + 1) done)
+looks_more classes own place done d at is looks k x stands = go (get_pushed (take place done) d x k (ap (λ l. slice_get l k) (sym (take_more done place d at)) ∙ stands))
+  where
+    go : (slice_get (take place done) k ≡ Some x) ⊎ ((k ≡ length (take place done)) × (d ≡ x)) → HasClass (bit_or classes own) (class_of x.0)
+    go (inl f) =
+        let first : bit_at classes (class_of x.0 % 64) ≡ 1 = looks k x f in
+        let second = bit_is own (class_of x.0 % 64) in
+        let both = bit_at_or classes own (class_of x.0 % 64) in
+        omega (arith, first, second, both)
+    go (inr f) =
+        let bit : bit_at own (class_of d.0 % 64) ≡ 1 = ap (λ n. bit_at n (class_of d.0 % 64)) is ∙ bit_at-pow_same (class_of d.0 % 64) in
+        let second = bit_is classes (class_of d.0 % 64) in
+        let both = bit_at_or classes own (class_of d.0 % 64) in
+        let has : HasClass (bit_or classes own) (class_of d.0) = omega (arith, bit, second, both) in
+        subst (λ (y : Op × Reply). HasClass (bit_or classes own) (class_of y.0)) f.1 has
+
+-- the set of one class has it
+pub one_class : (own class : ℕ) → own ≡ 2 ^ (class % 64) → HasClass own class
+one_class own class is = ap (λ n. bit_at n (class % 64)) is ∙ bit_at-pow_same (class % 64)
 
 -- a commit of none of the classes that a story looks at touches none of its operations
 module _ (schema : Schema) (es : List Entry) (commit classes looked_at : ℕ) (has : HasClasses classes (done_in es commit)) (apart : (bit_and classes looked_at == 0) ≡ true) where

@@ -1,5 +1,5 @@
 -- The next event behind a place: that it is one, is of a written object, and is found commit by commit and object by object.
-use Rattle.std.proofs.Common.{◌≡◌, ◌↔◌, ℕ, zero, suc, ◌+◌, ◌-◌, ◌<◌, ◌≤◌, ◌==◌, Bool, true, false, not, ◌&&◌, ◌||◌, min, List, [], ◌∷◌, ◌++◌, length, take, slice_get, Option, Some, None, MatchOption, IfSome, IfNone, bit_and, refl, sym, ap, subst, ◌∙◌, arith, inl, inr, ◌⊎◌}
+use Rattle.std.proofs.Common.{◌≡◌, ◌↔◌, ℕ, zero, suc, ◌+◌, ◌-◌, ◌<◌, ◌≤◌, ◌==◌, Bool, true, false, not, ◌&&◌, ◌||◌, min, List, [], ◌∷◌, ◌++◌, length, take, slice_get, Option, Some, None, MatchOption, IfSome, IfNone, bit_and, refl, sym, ap, subst, ◌∙◌, arith, inl, inr, ◌⊎◌, take_all}
 use Rattle.std.specs.Ordering.{is_eq}
 use Rattle.std.specs.Option.{option_map_or}
 use Rattle.std.proofs.lemmas.Bool.Decides.{nat_tests}
@@ -218,3 +218,24 @@ module _ (class : ℕ) (kind : EventKind) (journal : List Entry) (place : ℕ ×
           let here : HappenedByRows class kind journal (commit, other.1) = subst (λ (n : ℕ). HappenedByRows class kind journal (n, other.1)) number h in
           let there : is_behind place (commit, other.1) ≡ true = subst (λ (n : ℕ). is_behind place (n, other.1) ≡ true) number behind in
           subst (λ (n : ℕ). is_behind (n, other.1) (commit, id) ≡ false) (sym number) (lesser other.1 (found.least other.1 here there))
+
+  -- what was found of a change is what the journal says of it
+  pub event_found : (commit : ℕ) (own : ℕ × ℕ) (before after : Option Row) (found : Bool) → found ≡ ((own.0 == class) && (happened kind before after && is_behind place (commit, own.1)))
+      → before ≡ last_row journal (commit - 1) own → after ≡ last_row journal commit own → is_event commit own ≡ found
+  event_found commit own before after found is b a =
+      sym (is
+      ∙ ap (λ r. (own.0 == class) && (happened kind r after && is_behind place (commit, own.1))) b
+      ∙ ap (λ r. (own.0 == class) && (happened kind (last_row journal (commit - 1) own) r && is_behind place (commit, own.1))) a)
+
+  -- all objects of a commit looked at
+  module _ (commit : ℕ) (positive : 0 < commit) (there : commit ≤ commits journal) (n : ℕ) (all : length (objects_written (done_in journal commit)) ≤ n) where
+    whole : (least : Option ℕ) → IsLeast commit (take n (objects_written (done_in journal commit))) least → IsLeast commit (objects_written (done_in journal commit)) least
+    whole least is = subst (λ l. IsLeast commit l least) (take_all n (objects_written (done_in journal commit)) all) is
+
+    pub some_found : (least : Option ℕ) → IsLeast commit (take n (objects_written (done_in journal commit))) least → IfSome least (IsLeastEvent class kind journal place commit)
+    some_found None is = tt
+    some_found (Some id) is = least_event commit positive there id (whole (Some id) is)
+
+    pub none_found : (least : Option ℕ) → IsLeast commit (take n (objects_written (done_in journal commit))) least → IfNone least (HasNoEventOf class kind journal place commit)
+    none_found None is = no_event commit positive there (whole None is)
+    none_found (Some id) is = tt

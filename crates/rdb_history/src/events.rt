@@ -80,8 +80,7 @@ fn least_of(least: Option<u64>, id: u64) -> u64
     }
 }
 
-// The first event of the commit of a number behind a place: the least id of an object to which it happened. A commit of other classes is
-// passed by in one step.
+// The first event of the commit of a number behind a place: the least id of an object to which it happened.
 fn least_event(
     journal: &Journal,
     class: u32,
@@ -94,9 +93,6 @@ fn least_event(
     ensures some { IfSome result (IsLeastEvent class kind journal.now.entries (place.commit, place.id) commit) }
     ensures none { IfNone result (HasNoEventOf class kind journal.now.entries (place.commit, place.id) commit) }
 {
-    if are_apart(journal.classes(commit), class_set(class)) {
-        return None;
-    }
     let mut least = None;
     for object in 0..journal.written(commit) {
         let change = journal.change(commit, object);
@@ -105,6 +101,26 @@ fn least_event(
         }
     }
     least
+}
+
+// The same, where a commit of other classes is passed by in one step.
+fn least_event_if_of(
+    journal: &Journal,
+    class: u32,
+    kind: EventKind,
+    commit: u64,
+    place: EventPlace,
+) -> Option<u64>
+    requires first { 0 < commit }
+    requires there { commit ≤ commits journal.now.entries }
+    ensures some { IfSome result (IsLeastEvent class kind journal.now.entries (place.commit, place.id) commit) }
+    ensures none { IfNone result (HasNoEventOf class kind journal.now.entries (place.commit, place.id) commit) }
+{
+    if are_apart(journal.classes(commit), class_set(class)) {
+        None
+    } else {
+        least_event(journal, class, kind, commit, place)
+    }
 }
 
 /// The first event of a kind, of a class, behind a place: of the least commit, and in it of the least id; or none, where none of all
@@ -121,7 +137,7 @@ pub fn next_event(
 {
     for passed in place.commit.saturating_sub(1)..journal.commits() {
         let commit = passed + 1;
-        if let Some(id) = least_event(journal, class, kind, commit, place) {
+        if let Some(id) = least_event_if_of(journal, class, kind, commit, place) {
             return Some(EventPlace { commit, id });
         }
     }

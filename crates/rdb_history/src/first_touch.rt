@@ -57,9 +57,28 @@ fn touches(schema: &Schema, journal: &Journal, commit: u64, op: &Op, told: &Repl
     false
 }
 
-// The first operation of a story, from 1, that the commit of a number touches. A commit of none of the classes that the story looks at is
-// passed by in one step.
-fn touched_operation(
+// The first operation of a story, from 1, that the commit of a number touches.
+fn touched_operation(schema: &Schema, journal: &Journal, commit: u64, story: &Story) -> Option<u32>
+    requires fits { AllFit schema.now kind.ReadWrite story.now.done }
+    requires few { length story.now.done < 2 ^ 32 }
+    requires first { 0 < commit }
+    requires there { commit ≤ commits journal.now.entries }
+    ensures some { IfSome result (λ operation. (0 < operation)
+        × (touched_by_rows schema.now journal.now.entries commit story.now operation ≡ true)
+        × ((k : ℕ) → 0 < k → k < operation → touched_by_rows schema.now journal.now.entries commit story.now k ≡ false)) }
+    ensures none { IfNone result ((k : ℕ) → touched_by_rows schema.now journal.now.entries commit story.now k ≡ false) }
+{
+    for place in 0..story.done.len() {
+        let (op, told) = story.done.at(place);
+        if touches(schema, journal, commit, op, told) {
+            return Some(place as u32 + 1);
+        }
+    }
+    None
+}
+
+// The same, where a commit of none of the classes that the story looks at is passed by in one step.
+fn touched_if_looked_at(
     schema: &Schema,
     journal: &Journal,
     commit: u64,
@@ -77,15 +96,10 @@ fn touched_operation(
     ensures none { IfNone result ((k : ℕ) → touched_by_rows schema.now journal.now.entries commit story.now k ≡ false) }
 {
     if are_apart(journal.classes(commit), looked_at) {
-        return None;
+        None
+    } else {
+        touched_operation(schema, journal, commit, story)
     }
-    for place in 0..story.done.len() {
-        let (op, told) = story.done.at(place);
-        if touches(schema, journal, commit, op, told) {
-            return Some(place as u32 + 1);
-        }
-    }
-    None
 }
 
 /// The first commit above a story's snapshot that touches it, and the first of its operations that this commit touches, from 1; or
@@ -101,7 +115,7 @@ pub fn first_touch(schema: &Schema, journal: &Journal, story: &Story) -> Option<
     let looked_at = classes_looked_at(&story.done);
     for seen in story.snapshot..journal.commits() {
         let commit = seen + 1;
-        if let Some(operation) = touched_operation(schema, journal, commit, story, looked_at) {
+        if let Some(operation) = touched_if_looked_at(schema, journal, commit, story, looked_at) {
             return Some((commit, operation));
         }
     }
