@@ -1,11 +1,10 @@
 -- The next event behind a place: that it is one, is of a written object, and is found commit by commit and object by object.
-use Rattle.std.proofs.Common.{◌≡◌, ◌↔◌, ℕ, zero, suc, ◌+◌, ◌-◌, ◌<◌, ◌≤◌, ◌==◌, Bool, true, false, not, ◌&&◌, ◌||◌, min, List, [], ◌∷◌, ◌++◌, length, take, slice_get, Option, Some, None, MatchOption, IfSome, IfNone, bit_and, refl, sym, ap, subst, ◌∙◌, arith, inl, inr, ◌⊎◌, take_all}
+use Rattle.std.proofs.Common.{◌≡◌, ℕ, ◌+◌, ◌-◌, ◌<◌, ◌≤◌, ◌==◌, Bool, true, false, not, ◌&&◌, min, List, [], ◌∷◌, ◌++◌, length, take, slice_get, Option, Some, None, MatchOption, IfSome, IfNone, bit_and, refl, sym, ap, subst, ◌∙◌, arith, inl, inr, ◌⊎◌, take_all}
 use Rattle.std.specs.Ordering.{is_eq}
 use Rattle.std.specs.Option.{option_map_or}
 use Rattle.std.proofs.lemmas.Bool.Decides.{nat_tests}
 use Rattle.std.proofs.lemmas.Bool.{cases_lt}
 use Rattle.std.proofs.lemmas.Cmp.{tied_itself}
-use Rattle.rdb_base.specs.Order.{row_order}
 use Rattle.rdb_base.proofs.OrderLemmas.{row_order_total}
 use Rattle.rdb_base.specs.declared.journal.Entry.{Entry}
 use Rattle.rdb_schema.specs.declared.schema.EventKind.{EventKind}
@@ -15,7 +14,7 @@ use Rattle.rdb_model.specs.Index.{key}
 use Rattle.rdb_model.specs.Journal.{commits}
 use Rattle.rdb_model.specs.Events.{happened, is_behind}
 use Rattle.rdb_model.specs.Validation.{was_written}
-use Rattle.rdb_history.specs.Rows.{row_after, last_row, done_in, objects_written}
+use Rattle.rdb_history.specs.Rows.{last_row, done_in, objects_written}
 use Rattle.rdb_history.specs.RowEvents.{HappenedByRows, IsNextEvent, HasNoEvent, IsLeastEvent, HasNoEventOf}
 use Rattle.rdb_history.specs.Kept.{HasClasses}
 use Rattle.rdb_history.specs.Classes.{HasClass}
@@ -179,45 +178,6 @@ module _ (class : ℕ) (kind : EventKind) (journal : List Entry) (place : ℕ ×
   -- a commit of other classes has no event
   pub passed_by : (commit classes other : ℕ) → HasClasses classes (done_in journal commit) → HasClass other class → (bit_and classes other == 0) ≡ true → HasNoEventOf class kind journal place commit
   passed_by commit classes other has looked apart id h = absurd (not_in_both classes other class apart (has_class classes (done_in journal commit) (class, id) has (event_written class kind journal (commit, id) h)) looked)
-
-  -- commit by commit
-  pub none_before : (from : ℕ) → from ≤ place.0 - 1 → HasNoEvent class kind journal place from
-  none_before from below other h within = before (let f = h.numbered in omega arith)
-    where
-      before : other.0 < place.0 → is_behind place other ≡ false
-      before less = grind (arith, nat_tests)
-
-  pub none_further : (passed commit : ℕ) → commit ≡ passed + 1 → HasNoEvent class kind journal place passed → HasNoEventOf class kind journal place commit → HasNoEvent class kind journal place (passed + 1)
-  none_further passed commit is none none_of other h within = go (cases_lt passed other.0)
-    where
-      go : (passed < other.0) ⊎ (other.0 ≤ passed) → is_behind place other ≡ false
-      go (inl above) =
-          let number : other.0 ≡ commit = omega arith in
-          let here : HappenedByRows class kind journal (commit, other.1) = subst (λ (n : ℕ). HappenedByRows class kind journal (n, other.1)) number h in
-          subst (λ (n : ℕ). is_behind place (n, other.1) ≡ false) (sym number) (none_of other.1 here)
-      go (inr le) = none other h le
-
-  pub next_is : (passed commit id : ℕ) → commit ≡ passed + 1 → HasNoEvent class kind journal place passed → IsLeastEvent class kind journal place commit id → IsNextEvent class kind journal place (commit, id)
-  next_is passed commit id is none found = record {
-    happened = found.happened;
-    behind = found.behind;
-    first = λ other h behind. go other h behind (cases_lt passed other.0) (cases_lt commit other.0);
-  }
-    where
-      later : (other : ℕ × ℕ) → commit < other.0 → is_behind other (commit, id) ≡ false
-      later other less = grind (arith, nat_tests)
-
-      lesser : (n : ℕ) → id ≤ n → is_behind (commit, n) (commit, id) ≡ false
-      lesser n le = grind (arith, nat_tests)
-
-      go : (other : ℕ × ℕ) → HappenedByRows class kind journal other → is_behind place other ≡ true → (passed < other.0) ⊎ (other.0 ≤ passed) → (commit < other.0) ⊎ (other.0 ≤ commit) → is_behind other (commit, id) ≡ false
-      go other h behind (inr le) g = let e = none other h le in absurd (cc behind)
-      go other h behind (inl above) (inl less) = later other less
-      go other h behind (inl above) (inr le) =
-          let number : other.0 ≡ commit = omega arith in
-          let here : HappenedByRows class kind journal (commit, other.1) = subst (λ (n : ℕ). HappenedByRows class kind journal (n, other.1)) number h in
-          let there : is_behind place (commit, other.1) ≡ true = subst (λ (n : ℕ). is_behind place (n, other.1) ≡ true) number behind in
-          subst (λ (n : ℕ). is_behind (n, other.1) (commit, id) ≡ false) (sym number) (lesser other.1 (found.least other.1 here there))
 
   -- what was found of a change is what the journal says of it
   pub event_found : (commit : ℕ) (own : ℕ × ℕ) (before after : Option Row) (found : Bool) → found ≡ ((own.0 == class) && (happened kind before after && is_behind place (commit, own.1)))

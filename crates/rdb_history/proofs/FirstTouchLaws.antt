@@ -1,12 +1,10 @@
 -- The first touch by rows is the first one on the databases.
-use Rattle.std.proofs.Common.{◌≡◌, ◌↔◌, ℕ, ◌-◌, ◌<◌, ◌≤◌, true, false, List, Contains, sym, ◌∙◌, arith}
+use Rattle.std.proofs.Common.{◌↔◌, ℕ, List, sym, ◌∙◌, arith}
 use Rattle.rdb_base.specs.declared.identity.Kind.{Kind}
 use Rattle.rdb_base.specs.declared.journal.Story.{Story}
 use Rattle.rdb_base.specs.declared.journal.Entry.{Entry}
-use Rattle.rdb_base.specs.declared.journal.Entry.TheVariants as entry
 use Rattle.rdb_schema.specs.declared.schema.Schema.{Schema}
 use Rattle.rdb_model.specs.Fits.{AllFit}
-use Rattle.rdb_model.specs.Journal.{commits}
 use Rattle.rdb_model.specs.Parts.{NumbersInOrder, RepliesHold}
 use Rattle.rdb_history.specs.RowTouch.{IsFirstTouch, IsUntouched}
 use Rattle.rdb_history.specs.FirstTouch.{TouchesFirst, NoneTouches}

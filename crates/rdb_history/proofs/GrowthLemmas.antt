@@ -1,6 +1,6 @@
 -- A journal with more entries: its first commits, the databases and rows that they leave, and their events.
-use Rattle.std.proofs.Common.{◌≡◌, ◌↔◌, ℕ, zero, suc, ◌+◌, ◌-◌, ◌<◌, ◌≤◌, Bool, true, false, cond, not, ◌&&◌, ◌||◌, ◌==◌, List, [], ◌∷◌, ◌++◌, length, take, map, slice_get, filter, filter_map, Option, Some, None, Contains, unwrap_or, refl, sym, ap, ap₂, subst, ◌∙◌, arith, inl, inr, ◌⊎◌, take_all, length-append, append_assoc, append-nil, add-one}
-use Rattle.std.specs.List.{cons_option, list_any}
+use Rattle.std.proofs.Common.{◌≡◌, ◌↔◌, ℕ, zero, suc, ◌+◌, ◌-◌, ◌<◌, ◌≤◌, Bool, true, false, cond, not, ◌||◌, ◌==◌, List, [], ◌∷◌, ◌++◌, length, take, map, slice_get, filter, filter_map, Option, Some, None, Contains, unwrap_or, refl, sym, ap, subst, ◌∙◌, arith, inl, inr, ◌⊎◌, take_all, length-append, append_assoc, append-nil, add-one}
+use Rattle.std.specs.List.{list_any}
 use Rattle.std.specs.Option.{option_map_or}
 use Rattle.std.proofs.lemmas.Bool.Decides.{nat_tests}
 use Rattle.std.proofs.lemmas.List.{take-append-le}
@@ -14,13 +14,13 @@ use Rattle.rdb_base.specs.declared.journal.Entry.{Entry}
 use Rattle.rdb_base.specs.declared.journal.Entry.TheVariants as entry
 use Rattle.rdb_schema.specs.declared.schema.Schema.{Schema}
 use Rattle.rdb_schema.specs.declared.schema.EventKind.{EventKind}
-use Rattle.rdb_model.specs.Database.{Database, objects_of, empty}
+use Rattle.rdb_model.specs.Database.{objects_of, empty}
 use Rattle.rdb_model.specs.Story.{after}
-use Rattle.rdb_model.specs.Journal.{commits, committed, after_all, fold, breaks_number}
+use Rattle.rdb_model.specs.Journal.{commits, committed, after_all, fold}
 use Rattle.rdb_model.specs.Parts.{NumbersInOrder}
 use Rattle.rdb_model.specs.Events.{happened, event_ids, event_kind, events_up_to, event_list, is_behind}
 use Rattle.rdb_model.specs.Touch.{written_by}
-use Rattle.rdb_model.proofs.LegalCommits.{commits_are, fold_all, after_all_append}
+use Rattle.rdb_model.proofs.LegalCommits.{commits_are, after_all_append}
 use Rattle.rdb_model.proofs.SerialReads.{fold_front}
 use Rattle.rdb_model.proofs.SerialPlaces.{get_filtered}
 use Rattle.rdb_history.specs.Rows.{row_after, row_after_all, last_row, done_in}

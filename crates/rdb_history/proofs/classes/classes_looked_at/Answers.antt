@@ -1,4 +1,4 @@
-use Rattle.std.proofs.Common.{◌≡◌, ◌^◌, ◌%◌, ap, ◌∙◌}
+use Rattle.std.proofs.Common.{◌^◌, ◌%◌, ap, ◌∙◌}
 use Rattle.rdb_history.proofs.ClassLemmas.{looks_more}
 use Rattle.rdb_history.proofs.classes.classes_looked_at.Goals as goal
 

@@ -1,4 +1,4 @@
-use Rattle.std.proofs.Common.{◌≡◌, sym, ◌∙◌}
+use Rattle.std.proofs.Common.{sym, ◌∙◌}
 use Rattle.rdb_history.proofs.ClassLemmas.{one_class}
 use Rattle.rdb_history.proofs.EventLemmas.{passed_by}
 use Rattle.rdb_history.proofs.events.least_event_if_of.Goals as goal

@@ -1,4 +1,4 @@
-use Rattle.std.proofs.Common.{◌≡◌, sym, ◌∙◌}
+use Rattle.std.proofs.Common.{sym, ◌∙◌}
 use Rattle.rdb_history.proofs.ClassLemmas.{passed_by}
 use Rattle.rdb_history.proofs.first_touch.touched_if_looked_at.Goals as goal
 

@@ -1,4 +1,3 @@
-use Rattle.std.proofs.Common.{◌≡◌, ◌+◌, Bool, true, false, []}
 use Rattle.rdb_history.proofs.GrowthLemmas.{commits_grown, no_more_commits, done_grown, fold_grown, row_grown}
 use Rattle.rdb_history.proofs.laws.growth.first_commits_stay.Goals as goal
 
