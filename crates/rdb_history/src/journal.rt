@@ -108,7 +108,8 @@ impl Journal {
 
     /// Reserves room for so many further entries, and for so many further writes of commits, beside the room that there is. Entries and
     /// room are never more than `MAX_PLACES`, nor are writes and their room. Where memory is wanting, or there would be more, nothing
-    /// changes. The cost is that of what is reserved, spread over many calls.
+    /// changes. No room is given back but by `append`, which uses it up: who keeps count of what is claimed of it asks `room` and
+    /// `write_room`, and reserves what is wanting. The cost is that of what is reserved, spread over many calls.
     pub fn reserve(&mut self, entries: usize, writes: usize) -> Result<(), NoMemory>
         ensures ok { OnOk result (self.new ≡
             record self.old { room = self.old.room + entries; write_room = self.old.write_room + writes }) }
@@ -123,8 +124,9 @@ impl Journal {
         Ok(())
     }
 
-    /// Appends an entry into reserved room. Of a commit it keeps what it wrote, and gives back the room of writes beyond the first of an
-    /// object, so that what it leaves to others is at least what they reserved. It takes no memory; the cost grows with the operations of a commit, and is constant for other entries.
+    /// Appends an entry into reserved room. Of a commit it keeps what it wrote, and leaves the room of writes beyond the first of an
+    /// object, so that what it leaves to others is at least what they reserved. It takes no memory; the cost grows with the operations
+    /// of a commit, and is constant for other entries.
     pub fn append(&mut self, entry: Entry)
         requires room { 0 < self.old.room }
         requires write_room { length (filter_map written_by (done_of entry)) ≤ self.old.write_room }
@@ -191,7 +193,7 @@ impl Journal {
         self.commits.len() as u64
     }
 
-    /// The place among the entries of the commit of a number, from 1. The cost is constant.
+    /// The place among the entries of the commit of a number, from 1: its entry, with that many commits before it. The cost is constant.
     pub fn place(&self, commit: u64) -> usize
         requires first { 0 < commit }
         requires there { commit ≤ commits self.now.entries }

@@ -49,7 +49,8 @@ pub fn untouched_by_rows_is_untouched()
         touched schema (fold schema journal (commit - 1)) (entry.Commit own commit) story operation ≡ false }
 {}
 
-/// The first touch by these rows is the first one on the databases, and where there is none, no commit above the snapshot touches the story.
+/// The first touch by these rows is the first one on the databases, and where there is none, no commit above the snapshot touches the
+/// story.
 pub fn first_touch_by_rows_is_the_first_touch()
     ensures databases { (schema : Schema) (journal : List Entry) (story : Story) (commit operation : ℕ) →
         NumbersInOrder journal → RepliesHold schema journal → AllFit schema kind.ReadWrite story.done →
