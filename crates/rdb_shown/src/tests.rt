@@ -1,0 +1,1 @@
+//! The laws on the versions of small stories.

@@ -1,0 +1,1 @@
+//! The rules on the versions of small stories.
