@@ -3,3 +3,8 @@ pub mod RowsShown
 pub mod Pairs
 pub mod StampLemmas
 pub mod Picks
+pub mod KeptLemmas
+pub mod RestLemmas
+pub mod StampedLemmas
+pub mod GarbageLemmas
+pub mod AnswerLemmas

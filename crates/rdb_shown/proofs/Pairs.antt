@@ -21,6 +21,10 @@ module _ {A : Type 0} where
   pairs_to R [] pairs = λ i j d less lt. absurd (omega arith)
   pairs_to R (x ∷ xs) pairs = AllPairs-cons R x xs (All-from_recursion (R x) xs pairs.0) (pairs_to R xs pairs.1)
 
+  pub all_always : (P : A → Type 0) (xs : List A) → ((x : A) → P x) → AllByRecursion P xs
+  all_always P [] holds = tt
+  all_always P (x ∷ xs) holds = (holds x, all_always P xs holds)
+
   pub all_weaker : (P Q : A → Type 0) (xs : List A) → ((x : A) → P x → Q x) → AllByRecursion P xs → AllByRecursion Q xs
   all_weaker P Q [] more all = tt
   all_weaker P Q (x ∷ xs) more all = (more x all.0, all_weaker P Q xs more all.1)
