@@ -41,7 +41,7 @@ set_row_other os id other (Some row) e = row_of_with_row os id other row e
 set_row_other os id other None e = row_of_without os id other e
 
 -- an operation that wrote an object set its row
-set_at : (db : Database) (class id c i : ℕ) (row : Option Row) → Some (c, i) ≡ Some (class, id) → with_objects db c (set_row (objects_of db c) i row) ≡ with_objects db class (set_row (objects_of db class) id row)
+set_at : (db : Database) (class id c i : ℕ) (row : Option Row) → ◌≡◌ {A = Option (ℕ × ℕ)} (Some (c, i)) (Some (class, id)) → with_objects db c (set_row (objects_of db c) i row) ≡ with_objects db class (set_row (objects_of db class) id row)
 set_at db class id c i row e =
     let parts = some_pair_parts c class i id e in
     ap (λ k. with_objects db k (set_row (objects_of db k) i row)) parts.0 ∙ ap (λ k. with_objects db class (set_row (objects_of db class) k row)) parts.1
@@ -53,19 +53,19 @@ answer_wrote schema db (op.New c row i) told class id wrote is = go (clash (inde
     go : (k : Option (ℕ × ℕ)) → (written k (reply.Made i) db (with_objects db c (with_row (objects_of db c) i row))).0 ≡ told
         → (written k (reply.Made i) db (with_objects db c (with_row (objects_of db c) i row))).1 ≡ with_objects db class (set_row (objects_of db class) id (Some row))
     go None e = set_at db class id c i (Some row) (ap (λ t. written_by (op.New c row i, t)) e ∙ wrote)
-    go (Some at) e = let h : None ≡ Some (class, id) = ap (λ t. written_by (op.New c row i, t)) e ∙ wrote in (cc)
+    go (Some at) e = let h : ◌≡◌ {A = Option (ℕ × ℕ)} None (Some (class, id)) = ap (λ t. written_by (op.New c row i, t)) e ∙ wrote in (cc)
 answer_wrote schema db (op.Put c i row) told class id wrote is = go (row_of (objects_of db c) i) (clash (indexes_of schema c) 0 row (without (objects_of db c) i)) is
   where
     go : (r : Option Row) (k : Option (ℕ × ℕ)) → (put_answer r k db (with_objects db c (with_row (objects_of db c) i row))).0 ≡ told
         → (put_answer r k db (with_objects db c (with_row (objects_of db c) i row))).1 ≡ with_objects db class (set_row (objects_of db class) id (Some row))
-    go None k e = let h : None ≡ Some (class, id) = ap (λ t. written_by (op.Put c i row, t)) e ∙ wrote in (cc)
+    go None k e = let h : ◌≡◌ {A = Option (ℕ × ℕ)} None (Some (class, id)) = ap (λ t. written_by (op.Put c i row, t)) e ∙ wrote in (cc)
     go (Some r) None e = set_at db class id c i (Some row) (ap (λ t. written_by (op.Put c i row, t)) e ∙ wrote)
-    go (Some r) (Some at) e = let h : None ≡ Some (class, id) = ap (λ t. written_by (op.Put c i row, t)) e ∙ wrote in (cc)
+    go (Some r) (Some at) e = let h : ◌≡◌ {A = Option (ℕ × ℕ)} None (Some (class, id)) = ap (λ t. written_by (op.Put c i row, t)) e ∙ wrote in (cc)
 answer_wrote schema db (op.Del c i) told class id wrote is = go (row_of (objects_of db c) i) is
   where
     go : (r : Option Row) → (del_answer r db (with_objects db c (without (objects_of db c) i))).0 ≡ told
         → (del_answer r db (with_objects db c (without (objects_of db c) i))).1 ≡ with_objects db class (set_row (objects_of db class) id None)
-    go None e = let h : None ≡ Some (class, id) = ap (λ t. written_by (op.Del c i, t)) e ∙ wrote in (cc)
+    go None e = let h : ◌≡◌ {A = Option (ℕ × ℕ)} None (Some (class, id)) = ap (λ t. written_by (op.Del c i, t)) e ∙ wrote in (cc)
     go (Some r) e = set_at db class id c i None (ap (λ t. written_by (op.Del c i, t)) e ∙ wrote)
 answer_wrote schema db (op.Get c i) told class id wrote is = (cc)
 answer_wrote schema db (op.Find c at wanted) told class id wrote is = (cc)

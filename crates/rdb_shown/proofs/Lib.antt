@@ -8,3 +8,4 @@ pub mod RestLemmas
 pub mod StampedLemmas
 pub mod GarbageLemmas
 pub mod AnswerLemmas
+pub mod NothingLemmas

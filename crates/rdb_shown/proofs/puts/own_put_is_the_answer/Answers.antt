@@ -1,4 +1,4 @@
-use Rattle.std.proofs.Common.{◌≡◌, ◌≢◌, ℕ, Option, Some, None, true, List, ◌∷◌, cond, refl, sym, ap, subst, ◌∙◌, arith}
+use Rattle.std.proofs.Common.{◌≡◌, ◌≢◌, ℕ, ◌<◌, Option, Some, None, true, List, length, ◌∷◌, cond, refl, sym, ap, subst, ◌∙◌, arith}
 use Rattle.std.specs.List.{AllPairs}
 use Rattle.std.specs.Option.{option_map}
 use Rattle.std.proofs.lemmas.List.{length-map}
@@ -27,7 +27,7 @@ returns c = record {
       let rises = in_order journal marks before kept in
       let db = shown marks snapshot (Some tx) before in
       let many = length-map before (rows_shown marks snapshot (Some tx)) in
-      let there = let lt = put.put.class_there in omega (arith, many) in
+      let there : class < length db = let lt = put.put.class_there in omega (arith, many) in
       shows marks snapshot (Some tx) after (answer schema db o).1 (rises_after before after class id (put.version ∷ put.rest) rises put.put)
       (answer_in_order schema db o (shown_in_order marks snapshot (Some tx) before rises))
       (classes_after before after class id (put.version ∷ put.rest) put.put ∙ sym (answer_classes schema db o ∙ many))
