@@ -9,3 +9,5 @@ pub mod StampedLemmas
 pub mod GarbageLemmas
 pub mod AnswerLemmas
 pub mod NothingLemmas
+pub mod JournalLemmas
+pub mod MarkLemmas

@@ -49,8 +49,9 @@ pub fn mark_shows_the_commit()
 
 /// A mark that no version needs any more is taken away: every reader is shown what it was.
 pub fn unused_mark_shows_nothing()
-    ensures shown { (marks now : Marks) (versions : Versions) (tx : TxId) (snapshot : ℕ) (reader : Option TxId) →
-        IsUnmarked marks now tx → HasNone versions tx → shown now snapshot reader versions ≡ shown marks snapshot reader versions }
+    ensures shown { (journal : List Entry) (marks now : Marks) (versions : Versions) (tx : TxId) (snapshot : ℕ) (reader : Option TxId) →
+        AreVersions journal marks versions → IsUnmarked marks now tx → HasNone versions tx →
+        shown now snapshot reader versions ≡ shown marks snapshot reader versions }
     ensures kept { (journal : List Entry) (marks now : Marks) (versions : Versions) (tx : TxId) →
         IsUnmarked marks now tx → HasNone versions tx → AreVersions journal marks versions → AreVersions journal now versions }
     ensures work { (marks now : Marks) (versions : Versions) (tx other : TxId) (snapshot : ℕ) (done : List (Op × Reply)) →
@@ -58,10 +59,10 @@ pub fn unused_mark_shows_nothing()
         IsWork marks versions other snapshot done → IsWork now versions other snapshot done }
 {}
 
-/// An entry more changes nothing in the databases of the commits before it; one that is no commit keeps the versions as they are kept.
+/// An entry more changes nothing in the databases of the commits before it, and keeps the versions as they are kept.
 pub fn entry_keeps_what_was()
     ensures folds { (schema : Schema) (journal : List Entry) (e : Entry) (n : ℕ) → n ≤ commits journal →
         fold schema (journal ++ e ∷ []) n ≡ fold schema journal n }
-    ensures kept { (journal : List Entry) (marks : Marks) (versions : Versions) (e : Entry) → is_commit e ≡ false →
+    ensures kept { (journal : List Entry) (marks : Marks) (versions : Versions) (e : Entry) →
         AreVersions journal marks versions → AreVersions (journal ++ e ∷ []) marks versions }
 {}
