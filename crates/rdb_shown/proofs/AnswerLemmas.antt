@@ -1,7 +1,9 @@
 -- What an operation that writes leaves of the plain database, and what a story left of its objects.
-use Rattle.std.proofs.Common.{◌≡◌, ◌≢◌, ℕ, ◌<◌, Bool, true, false, cond, ◌&&◌, List, [], ◌∷◌, ◌++◌, length, Option, Some, None, is_none, nat_eq, nat_lt, refl, sym, ap, subst, ◌∙◌, arith, get_or-set_same}
+use Rattle.std.proofs.Common.{◌≡◌, ◌≢◌, ℕ, ◌<◌, Bool, true, false, cond, ◌&&◌, ◌≤◌, ◌⊎◌, inl, inr, List, [], ◌∷◌, ◌++◌, length, Option, Some, None, is_none, nat_eq, nat_lt, refl, sym, ap, subst, ◌∙◌, arith, get_or-set_same}
 use Rattle.std.specs.Option.{option_map_or, option_or}
+use Rattle.std.proofs.lemmas.Bool.{cases_lt}
 use Rattle.std.proofs.lemmas.Bool.Decides.{nat_tests}
+use Rattle.std.proofs.lemmas.List.{set_past}
 use Rattle.std.proofs.lemmas.Option.{some_pair_parts}
 use Rattle.rdb_base.specs.declared.operation.Op.{Op}
 use Rattle.rdb_base.specs.declared.operation.Op.TheVariants as op
@@ -78,17 +80,20 @@ answer_wrote schema db (op.Count c) told class id wrote is = (cc)
 pub set_here : (db : Database) (class id : ℕ) (row : Option Row) → class < length db → row_of (objects_of (with_objects db class (set_row (objects_of db class) id row)) class) id ≡ row
 set_here db class id row lt = ap (λ os. row_of os id) (get_or-set_same db class (set_row (objects_of db class) id row) [] lt) ∙ set_row_same (objects_of db class) id row
 
-pub set_elsewhere : (db : Database) (class id : ℕ) (row : Option Row) → class < length db → (c i : ℕ) → (nat_eq class c ≡ true → nat_eq id i ≡ true → ⊥)
+pub set_elsewhere : (db : Database) (class id : ℕ) (row : Option Row) (c i : ℕ) → (nat_eq class c ≡ true → nat_eq id i ≡ true → ⊥)
     → row_of (objects_of (with_objects db class (set_row (objects_of db class) id row)) c) i ≡ row_of (objects_of db c) i
-set_elsewhere db class id row lt c i differs = go (nat_eq class c) refl (nat_eq id i) refl
+set_elsewhere db class id row c i differs = go (nat_eq class c) refl (nat_eq id i) refl
   where
+    within : (class < length db) ⊎ (length db ≤ class) → nat_eq id i ≡ false → row_of (objects_of (with_objects db class (set_row (objects_of db class) id row)) class) i ≡ row_of (objects_of db class) i
+    within (inl lt) f = ap (λ os. row_of os i) (get_or-set_same db class (set_row (objects_of db class) id row) [] lt) ∙ set_row_other (objects_of db class) id i row f
+    within (inr past) f = ap (λ (d : Database). row_of (objects_of d class) i) (set_past db class (set_row (objects_of db class) id row) past)
+
     go : (b : Bool) → nat_eq class c ≡ b → (d : Bool) → nat_eq id i ≡ d → row_of (objects_of (with_objects db class (set_row (objects_of db class) id row)) c) i ≡ row_of (objects_of db c) i
     go false e d f = ap (λ os. row_of os i) (objects_other db class c (set_row (objects_of db class) id row) e)
     go true e true f = absurd (differs e f)
     go true e false f =
         let same : class ≡ c = grind (arith, nat_tests) in
-        subst (λ (k : ℕ). row_of (objects_of (with_objects db class (set_row (objects_of db class) id row)) k) i ≡ row_of (objects_of db k) i) same
-        (ap (λ os. row_of os i) (get_or-set_same db class (set_row (objects_of db class) id row) [] lt) ∙ set_row_other (objects_of db class) id i row f)
+        subst (λ (k : ℕ). row_of (objects_of (with_objects db class (set_row (objects_of db class) id row)) k) i ≡ row_of (objects_of db k) i) same (within (cases_lt class (length db)) f)
 
 -- whether an operation wrote an object
 pub wrote_here : (d : Op × Reply) (class id : ℕ) → written_by d ≡ Some (class, id) → wrote d (class, id) ≡ true

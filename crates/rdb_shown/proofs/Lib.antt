@@ -11,3 +11,4 @@ pub mod AnswerLemmas
 pub mod NothingLemmas
 pub mod JournalLemmas
 pub mod MarkLemmas
+pub mod CommitLemmas

@@ -1,5 +1,5 @@
 -- Marks that change: what each version counts as, and what is shown.
-use Rattle.std.proofs.Common.{◌≡◌, ◌≢◌, ℕ, ◌+◌, ◌<◌, ◌≤◌, Bool, true, false, cond, List, [], ◌∷◌, ◌++◌, length, Option, Some, None, nat_le, nat_lt, refl, sym, ap, subst, ◌∙◌, arith, is_some}
+use Rattle.std.proofs.Common.{◌≡◌, ◌≢◌, ℕ, ◌+◌, ◌<◌, ◌≤◌, Bool, true, false, cond, List, [], ◌∷◌, ◌++◌, length, get_or, Option, Some, None, nat_le, nat_lt, refl, sym, ap, subst, ◌∙◌, arith, is_some}
 use Rattle.std.specs.Prelude.{option_and_then}
 use Rattle.std.specs.List.{find, AllPairs, AllByRecursion}
 use Rattle.std.specs.Option.{option_map, option_map_or, option_or}
@@ -50,7 +50,7 @@ kept_more journal e marks versions kept = record {
   chains = λ class id. record {
     falls = (kept.chains class id).falls;
     once = (kept.chains class id).once;
-    written = λ k d lt. written_more journal e marks (class, id) _ ((kept.chains class id).written k d lt);
+    written = λ k d lt. written_more journal e marks (class, id) (get_or (chain_in versions class id) k d) ((kept.chains class id).written k d lt);
   };
 }
 

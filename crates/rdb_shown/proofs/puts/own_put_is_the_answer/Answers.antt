@@ -33,7 +33,7 @@ returns c = record {
       (classes_after before after class id (put.version ∷ put.rest) put.put ∙ sym (answer_classes schema db o ∙ many))
       (λ k i lt. each_object before after class id (put.version ∷ put.rest) rises put.put (λ d j ch. row_shown marks snapshot (Some tx) ch ≡ row_of (objects_of (answer schema db o).1 d) j)
       (put_seen marks snapshot tx put.version put.rest put.stamped open_ ∙ put.holds ∙ sym (ap (λ b. row_of (objects_of b class) id) (answer_wrote schema db o told class id wrote is) ∙ set_here db class id (row_left o) there))
-      (λ d j differs. sym (ap (λ b. row_of (objects_of b d) j) (answer_wrote schema db o told class id wrote is) ∙ set_elsewhere db class id (row_left o) there d j differs ∙ shown_row marks snapshot (Some tx) before d j rises)) k i);
+      (λ d j differs. sym (ap (λ b. row_of (objects_of b d) j) (answer_wrote schema db o told class id wrote is) ∙ set_elsewhere db class id (row_left o) d j differs ∙ shown_row marks snapshot (Some tx) before d j rises)) k i);
   others = λ journal marks before after tx class id row snapshot reader kept open_ differs puts.
       let put = put_is before after tx class id row puts in
       same_shown marks snapshot reader before after class id (put.version ∷ put.rest) (in_order journal marks before kept) put.put
