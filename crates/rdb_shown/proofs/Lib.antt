@@ -12,3 +12,5 @@ pub mod NothingLemmas
 pub mod JournalLemmas
 pub mod MarkLemmas
 pub mod CommitLemmas
+pub mod TouchLemmas
+pub mod MarkedChains
