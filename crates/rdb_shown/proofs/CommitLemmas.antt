@@ -1,7 +1,7 @@
 -- What the versions show after a commit that is marked.
-use Rattle.std.proofs.Common.{◌≡◌, ◌≢◌, ℕ, ◌+◌, ◌<◌, ◌≤◌, Bool, true, false, cond, List, [], ◌∷◌, ◌++◌, length, Option, Some, None, nat_le, nat_lt, refl, sym, ap, subst, ◌∙◌, arith, is_some}
+use Rattle.std.proofs.Common.{◌≡◌, ℕ, ◌+◌, ◌<◌, ◌≤◌, true, false, cond, List, [], ◌∷◌, ◌++◌, length, Option, Some, None, nat_le, nat_lt, refl, sym, ap, ◌∙◌, arith}
 use Rattle.std.specs.Prelude.{option_and_then}
-use Rattle.std.specs.List.{find, AllPairs, AllByRecursion}
+use Rattle.std.specs.List.{AllByRecursion}
 use Rattle.std.specs.Option.{option_map, option_map_or, option_or}
 use Rattle.std.proofs.lemmas.Bool.Decides.{nat_tests}
 use Rattle.std.proofs.lemmas.List.{length-map}
@@ -9,8 +9,6 @@ use Rattle.std.proofs.lemmas.List.Elements.{recursion_from_All}
 use Rattle.rdb_base.specs.declared.identity.TxId.{TxId}
 use Rattle.rdb_base.specs.declared.identity.Stamp.{Stamp}
 use Rattle.rdb_base.specs.declared.identity.Stamp.TheVariants as stamp
-use Rattle.rdb_base.specs.declared.operation.Op.{Op}
-use Rattle.rdb_base.specs.declared.operation.Reply.{Reply}
 use Rattle.rdb_base.specs.declared.journal.Story.{Story}
 use Rattle.rdb_base.specs.declared.journal.Entry.{Entry}
 use Rattle.rdb_base.specs.declared.journal.Entry.TheVariants as entry
@@ -24,7 +22,7 @@ use Rattle.rdb_model.specs.Parts.{KeepsLaw}
 use Rattle.rdb_model.specs.Validation.{IsNew, IsValid}
 use Rattle.rdb_model.proofs.CommitSound.{commit_keeps}
 use Rattle.rdb_model.proofs.OrderedLemmas.{fold_in_order}
-use Rattle.rdb_history.specs.Rows.{row_after, last_row}
+use Rattle.rdb_history.specs.Rows.{last_row}
 use Rattle.rdb_history.proofs.FoldLemmas.{last_row_is}
 use Rattle.rdb_shown.specs.Kept.{last_left, IsWritten, AreVersions, IsWork}
 use Rattle.rdb_shown.specs.Changes.{IsMarked}

@@ -1,7 +1,7 @@
 -- Garbage is seen by no reader whose snapshot isn't below the least open one.
-use Rattle.std.proofs.Common.{◌≡◌, ◌≢◌, ℕ, ◌<◌, ◌≤◌, Bool, true, false, cond, ◌&&◌, ◌||◌, not, ◌⊎◌, inl, inr, List, [], ◌∷◌, ◌++◌, length, map, min, Option, Some, None, is_none, is_some, nat_le, nat_lt, refl, sym, ap, subst, ◌∙◌, arith, append-nil}
+use Rattle.std.proofs.Common.{◌≡◌, ℕ, ◌<◌, ◌≤◌, Bool, true, false, cond, ◌&&◌, ◌||◌, not, ◌⊎◌, inl, inr, List, [], ◌∷◌, ◌++◌, length, map, min, Option, Some, None, is_none, nat_le, nat_lt, refl, sym, ap, subst, ◌∙◌, arith, append-nil}
 use Rattle.std.specs.Prelude.{option_and_then}
-use Rattle.std.specs.List.{find, AllPairs, AllByRecursion}
+use Rattle.std.specs.List.{find, AllByRecursion}
 use Rattle.std.specs.Option.{option_map_or, option_or}
 use Rattle.std.proofs.lemmas.Bool.Decides.{nat_tests}
 use Rattle.std.proofs.lemmas.List.Elements.{recursion_from_All}
@@ -16,7 +16,7 @@ use Rattle.rdb_model.specs.Database.{Row}
 use Rattle.rdb_model.specs.Journal.{commits}
 use Rattle.rdb_shown.specs.Kept.{IsOfLaterCommit, IsWritten, IsChain}
 use Rattle.rdb_shown.specs.Changes.{IsAtLeast}
-use Rattle.rdb_shown.proofs.Pairs.{pairs_from, pairs_before, all_front, all_at, all_weaker}
+use Rattle.rdb_shown.proofs.Pairs.{pairs_from, pairs_before, all_front, all_weaker}
 use Rattle.rdb_shown.proofs.Picks.{find_without, HasOver, greatest_exceeded, greatest_last}
 
 -- a commit that every open snapshot has is one that the reader's snapshot has

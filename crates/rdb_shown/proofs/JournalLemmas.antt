@@ -1,8 +1,7 @@
 -- The commits of a journal with one entry more.
-use Rattle.std.proofs.Common.{◌≡◌, ℕ, zero, suc, ◌+◌, ◌<◌, ◌≤◌, Bool, true, false, cond, List, [], ◌∷◌, ◌++◌, length, take, slice_get, filter_map, Option, Some, None, unwrap_or, refl, sym, ap, subst, ◌∙◌, arith, add-one, length-append}
+use Rattle.std.proofs.Common.{◌≡◌, ℕ, zero, suc, ◌+◌, ◌≤◌, List, [], ◌∷◌, ◌++◌, length, take, slice_get, filter_map, Option, None, unwrap_or, refl, sym, ap, ◌∙◌, arith, add-one, length-append}
 use Rattle.std.proofs.lemmas.List.{take_all, length-replicate}
 use Rattle.std.proofs.lemmas.List.Elements.{filter_map-append}
-use Rattle.rdb_base.specs.Entries.{is_commit}
 use Rattle.rdb_base.specs.declared.operation.Op.{Op}
 use Rattle.rdb_base.specs.declared.operation.Reply.{Reply}
 use Rattle.rdb_base.specs.declared.journal.Story.{Story}
@@ -15,7 +14,7 @@ use Rattle.rdb_model.specs.Story.{after}
 use Rattle.rdb_model.specs.Journal.{commits, committed, after_all, fold}
 use Rattle.rdb_model.proofs.AnsweringLemmas.{answer_classes}
 use Rattle.rdb_model.proofs.LegalCommits.{commits_are}
-use Rattle.rdb_model.proofs.TallyLemmas.{commits_push, commits_yes}
+use Rattle.rdb_model.proofs.TallyLemmas.{commits_push}
 use Rattle.rdb_history.specs.Rows.{row_after, row_after_all, last_row, done_in}
 use Rattle.rdb_history.proofs.ListLemmas.{get_left, get_last}
 

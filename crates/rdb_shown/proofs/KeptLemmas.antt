@@ -1,27 +1,25 @@
 -- What the versions keep as one object gets another chain.
-use Rattle.std.proofs.Common.{◌≡◌, ◌≢◌, ℕ, ◌<◌, ◌≤◌, Bool, true, false, ◌⊎◌, inl, inr, List, [], ◌∷◌, ◌++◌, length, Option, Some, None, nat_eq, refl, sym, ap, subst, ◌∙◌, arith}
-use Rattle.std.specs.Prelude.{option_and_then}
-use Rattle.std.specs.List.{find, All, AllPairs, AllByRecursion}
+use Rattle.std.proofs.Common.{◌≡◌, ◌≢◌, ℕ, true, false, List, ◌∷◌, ◌++◌, Option, Some, None, nat_eq, refl, sym, ap, subst, ◌∙◌, arith}
+use Rattle.std.specs.List.{AllPairs}
 use Rattle.std.specs.Option.{option_map}
 use Rattle.std.proofs.lemmas.Bool.Decides.{nat_tests}
 use Rattle.std.proofs.lemmas.List.{length-map}
 use Rattle.std.proofs.lemmas.List.Elements.{recursion_from_All, All-from_recursion}
 use Rattle.rdb_base.specs.declared.identity.TxId.{TxId}
-use Rattle.rdb_base.specs.declared.identity.Stamp.{Stamp}
 use Rattle.rdb_base.specs.declared.identity.Stamp.TheVariants as stamp
 use Rattle.rdb_base.specs.declared.operation.Op.{Op}
 use Rattle.rdb_base.specs.declared.operation.Reply.{Reply}
 use Rattle.rdb_base.specs.declared.journal.Entry.{Entry}
-use Rattle.rdb_sight.specs.Sight.{is_own, commit_within}
+use Rattle.rdb_sight.specs.Sight.{is_own}
 use Rattle.rdb_sight.specs.Versions.{Version, Versions, Marks, objects_in, chain_in, IsWithout, counted, row_shown, rows_shown, shown, own_version}
 use Rattle.rdb_model.specs.Database.{row_of, objects_of}
 use Rattle.rdb_shown.specs.Kept.{last_left, IsOfLaterCommit, AreOfTwo, IsWritten, IsChain, AreVersions, IsUnseenBy, IsWork}
 use Rattle.rdb_shown.specs.Changes.{HasChain}
 use Rattle.rdb_shown.proofs.ChainMaps.{Rises, rises_from, ascending_from, each_object, rises_after, classes_after}
 use Rattle.rdb_shown.proofs.RowsShown.{shown_row, shown_in_order, shows}
-use Rattle.rdb_shown.proofs.Pairs.{Pairs, pairs_from, pairs_to, all_always, all_weaker, all_without, all_put, pairs_without, pairs_put, pairs_before, pairs_behind}
-use Rattle.rdb_shown.proofs.StampLemmas.{own_itself, own_is, others_own, counted_by, counted_own, own_counted}
-use Rattle.rdb_shown.proofs.Picks.{find_without, find_none, none_found, pick_without, pick_same}
+use Rattle.rdb_shown.proofs.Pairs.{pairs_from, pairs_to, all_always, all_weaker, all_without, all_put, pairs_without, pairs_put}
+use Rattle.rdb_shown.proofs.StampLemmas.{own_itself, counted_by, counted_own}
+use Rattle.rdb_shown.proofs.Picks.{none_found}
 
 -- the ids ascend
 pub in_order : (journal : List Entry) (marks : Marks) (versions : Versions) → AreVersions journal marks versions → (c : ℕ) → Rises (objects_in versions c)
@@ -141,4 +139,6 @@ chain_elsewhere before after class id chain rises has other differs =
     apart e f =
         let one : other.0 ≡ class = grind (arith, nat_tests) in
         let two : other.1 ≡ id = grind (arith, nat_tests) in
-        differs (ap (λ c. (c, other.1)) one ∙ ap (λ i. (class, i)) two)
+        let half : ◌≡◌ {A = ℕ × ℕ} other (class, other.1) = ap (λ c. (c, other.1)) one in
+        let rest : ◌≡◌ {A = ℕ × ℕ} (class, other.1) (class, id) = ap (λ i. (class, i)) two in
+        differs (half ∙ rest)

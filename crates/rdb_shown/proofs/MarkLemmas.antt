@@ -1,8 +1,8 @@
 -- Marks that change: what each version counts as, and what is shown.
-use Rattle.std.proofs.Common.{◌≡◌, ◌≢◌, ℕ, ◌+◌, ◌<◌, ◌≤◌, Bool, true, false, cond, List, [], ◌∷◌, ◌++◌, length, get_or, Option, Some, None, nat_le, nat_lt, refl, sym, ap, subst, ◌∙◌, arith, is_some}
+use Rattle.std.proofs.Common.{◌≡◌, ◌≢◌, ℕ, ◌+◌, ◌<◌, ◌≤◌, Bool, true, false, cond, List, [], ◌∷◌, ◌++◌, get_or, Option, Some, None, nat_le, refl, sym, ap, ◌∙◌, arith}
 use Rattle.std.specs.Prelude.{option_and_then}
-use Rattle.std.specs.List.{find, AllPairs, AllByRecursion}
-use Rattle.std.specs.Option.{option_map, option_map_or, option_or}
+use Rattle.std.specs.List.{AllByRecursion}
+use Rattle.std.specs.Option.{option_map_or}
 use Rattle.std.proofs.lemmas.Bool.Decides.{nat_tests}
 use Rattle.std.proofs.lemmas.List.{length-map}
 use Rattle.std.proofs.lemmas.List.Elements.{recursion_from_All, All-from_recursion}
@@ -12,15 +12,15 @@ use Rattle.rdb_base.specs.declared.identity.Stamp.TheVariants as stamp
 use Rattle.rdb_base.specs.declared.operation.Op.{Op}
 use Rattle.rdb_base.specs.declared.operation.Reply.{Reply}
 use Rattle.rdb_base.specs.declared.journal.Entry.{Entry}
-use Rattle.rdb_sight.specs.Sight.{same_tx, is_own, commit_within, exceeds, greatest}
-use Rattle.rdb_sight.specs.Versions.{Version, Versions, Marks, objects_in, chain_in, counted, row_shown, rows_shown, shown, own_version}
+use Rattle.rdb_sight.specs.Sight.{same_tx, is_own, commit_within}
+use Rattle.rdb_sight.specs.Versions.{Version, Versions, Marks, objects_in, chain_in, counted, row_shown, rows_shown, shown}
 use Rattle.rdb_model.specs.Journal.{commits}
 use Rattle.rdb_shown.specs.Kept.{last_left, IsOfLaterCommit, AreOfTwo, IsWritten, IsChain, AreVersions, IsUnseenBy, IsWork}
 use Rattle.rdb_shown.specs.Changes.{IsMarked, IsUnmarked, HasNone}
 use Rattle.rdb_shown.proofs.ChainMaps.{Rises}
 use Rattle.rdb_shown.proofs.RowsShown.{shown_row, shown_in_order, shows}
-use Rattle.rdb_shown.proofs.Pairs.{Pairs, pairs_from, pairs_to, pairs_with, pairs_weaker, all_weaker, all_always}
-use Rattle.rdb_shown.proofs.StampLemmas.{same_is, own_itself, own_is, others_own, counted_by, counted_own, counted_marked, own_counted}
+use Rattle.rdb_shown.proofs.Pairs.{pairs_from, pairs_to, pairs_with, pairs_weaker, all_weaker, all_always}
+use Rattle.rdb_shown.proofs.StampLemmas.{own_itself, own_is, others_own, counted_own, counted_marked}
 use Rattle.rdb_shown.proofs.StampedLemmas.{same_sights, recounted_sights}
 use Rattle.rdb_shown.proofs.Picks.{none_found, pick_same}
 use Rattle.rdb_shown.proofs.JournalLemmas.{commits_grow, done_in_more}
@@ -121,8 +121,7 @@ earlier_shown journal marks now versions tx snapshot reader rises open_ marked l
             let mine : s ≡ stamp.By tx = own_is tx s e in
             let was : counted marks s ≡ stamp.By tx = counted_own marks s tx mine open_ in
             let is : counted now s ≡ stamp.Done (commits journal + 1) = counted_marked now s tx (commits journal + 1) mine marked.own in
-            let above : nat_le (commits journal + 1) snapshot ≡ false = grind (arith, nat_tests) in
-            (
+            let above : nat_le (commits journal + 1) snapshot ≡ false = grind (arith, nat_tests) in (
               ap (is_own reader) is ∙ nobodys reader (commits journal + 1) ∙ sym (others_own reader tx (counted marks s) differs was),
               ap (commit_within snapshot) is ∙ ap (λ b. cond b (Some (commits journal + 1)) None) above ∙ sym (ap (commit_within snapshot) was),
             )

@@ -1,11 +1,9 @@
 -- A marked commit keeps the chains.
-use Rattle.std.proofs.Common.{◌≡◌, ◌≢◌, ℕ, ◌+◌, ◌<◌, ◌≤◌, Bool, true, false, cond, List, [], ◌∷◌, ◌++◌, length, Option, Some, None, refl, sym, ap, subst, ◌∙◌, arith}
-use Rattle.std.specs.List.{find, AllPairs, AllByRecursion}
+use Rattle.std.proofs.Common.{◌≡◌, ℕ, ◌+◌, ◌<◌, ◌≤◌, Bool, true, false, cond, List, [], ◌∷◌, ◌++◌, Some, None, refl, sym, ap, ◌∙◌, arith}
+use Rattle.std.specs.List.{AllByRecursion}
 use Rattle.std.specs.Option.{option_map}
 use Rattle.std.proofs.lemmas.List.Elements.{recursion_from_All, All-from_recursion}
-use Rattle.rdb_base.specs.Entries.{is_commit}
 use Rattle.rdb_base.specs.declared.identity.TxId.{TxId}
-use Rattle.rdb_base.specs.declared.identity.Stamp.{Stamp}
 use Rattle.rdb_base.specs.declared.identity.Stamp.TheVariants as stamp
 use Rattle.rdb_base.specs.declared.journal.Story.{Story}
 use Rattle.rdb_base.specs.declared.journal.Entry.{Entry}
@@ -14,7 +12,6 @@ use Rattle.rdb_schema.specs.declared.schema.Schema.{Schema}
 use Rattle.rdb_sight.specs.Sight.{is_own}
 use Rattle.rdb_sight.specs.Versions.{Version, Versions, Marks, chain_in, counted, own_version}
 use Rattle.rdb_model.specs.declared.legality.Span.{Span}
-use Rattle.rdb_model.specs.Database.{Row}
 use Rattle.rdb_model.specs.Journal.{commits}
 use Rattle.rdb_model.specs.Parts.{KeepsLaw}
 use Rattle.rdb_model.specs.Validation.{IsValid}
@@ -23,7 +20,7 @@ use Rattle.rdb_history.specs.Rows.{done_in}
 use Rattle.rdb_shown.specs.Kept.{last_left, IsOfLaterCommit, AreOfTwo, IsWritten, IsChain, AreVersions, IsUnseenBy, IsWork}
 use Rattle.rdb_shown.specs.Changes.{IsMarked}
 use Rattle.rdb_shown.proofs.Pairs.{Pairs, pairs_from, pairs_to, pairs_with, pairs_weaker, all_both, all_weaker}
-use Rattle.rdb_shown.proofs.StampLemmas.{own_is, own_itself, counted_own, counted_by, counted_marked}
+use Rattle.rdb_shown.proofs.StampLemmas.{own_is, counted_own, counted_marked}
 use Rattle.rdb_shown.proofs.MarkLemmas.{counted_other, written_more}
 use Rattle.rdb_shown.proofs.JournalLemmas.{done_in_last}
 use Rattle.rdb_shown.proofs.TouchLemmas.{no_other_wrote}
@@ -43,7 +40,7 @@ own_found marks tx (v ∷ vs) open_ once = go (is_own (Some tx) v.stamp) refl (o
     go false e rest = (
       (λ f. (cc)),
       all_weaker (λ w. is_own (Some tx) w.stamp ≡ true → own_version tx vs ≡ Some w) (λ w. is_own (Some tx) w.stamp ≡ true → own_version tx (v ∷ vs) ≡ Some w) vs
-      (λ w h f. ap (λ b. cond b (Some v) (own_version tx vs)) e ∙ h f) rest,
+          (λ w h f. ap (λ b. cond b (Some v) (own_version tx vs)) e ∙ h f) rest,
     )
 
 -- two relations of a list's elements in order
@@ -100,11 +97,10 @@ marked_kept within schema journal marks now versions tx story law valid kept wor
             go true f =
                 let one : stamp.Done (commits journal + 1) ≡ stamp.Done n = sym (is_marked v f) ∙ e in
                 let same : commits journal + 1 ≡ n = (cc) in
-                let many : commits (journal ++ entry.Commit story (commits journal + 1) ∷ []) ≡ commits journal + 1 = commits_yes journal (entry.Commit story (commits journal + 1)) refl in
-                (
+                let many : commits (journal ++ entry.Commit story (commits journal + 1) ∷ []) ≡ commits journal + 1 = commits_yes journal (entry.Commit story (commits journal + 1)) refl in (
                   omega arith,
                   ap (λ m. last_left (class, id) (done_in (journal ++ entry.Commit story (commits journal + 1) ∷ []) m)) (sym same)
-                  ∙ ap (last_left (class, id)) (done_in_last journal story (commits journal + 1)) ∙ is.1 f,
+                      ∙ ap (last_left (class, id)) (done_in_last journal story (commits journal + 1)) ∙ is.1 f,
                 )
 
         falls : (v w : Version) → IsWritten journal marks (class, id) v × (is_own (Some tx) v.stamp ≡ true → last_left (class, id) story.done ≡ Some v.row)

@@ -1,14 +1,12 @@
 -- Where there is no version, of any transaction or of one.
-use Rattle.std.proofs.Common.{◌≡◌, ℕ, zero, suc, ◌<◌, Bool, true, false, List, [], ◌∷◌, length, replicate, map, slice_get, get_or, Option, Some, None, refl, sym, ap, subst, ◌∙◌, arith}
-use Rattle.std.specs.List.{AllPairs, AllByRecursion}
+use Rattle.std.proofs.Common.{◌≡◌, ℕ, zero, suc, true, false, List, [], ◌∷◌, replicate, Option, Some, None, refl, sym, ap, subst, arith}
+use Rattle.std.specs.List.{AllByRecursion}
 use Rattle.std.specs.Option.{option_map}
 use Rattle.rdb_base.specs.declared.identity.TxId.{TxId}
-use Rattle.rdb_base.specs.declared.identity.Stamp.{Stamp}
-use Rattle.rdb_base.specs.declared.identity.Stamp.TheVariants as stamp
 use Rattle.rdb_base.specs.declared.journal.Entry.{Entry}
 use Rattle.rdb_sight.specs.Sight.{is_own}
-use Rattle.rdb_sight.specs.Versions.{Version, Object, Versions, Marks, chain_of, objects_in, chain_in, own_version, shown}
-use Rattle.rdb_model.specs.Database.{Row, Objects, empty}
+use Rattle.rdb_sight.specs.Versions.{Version, Object, Versions, Marks, chain_of, objects_in, chain_in, shown}
+use Rattle.rdb_model.specs.Database.{Objects, empty}
 use Rattle.rdb_shown.specs.Kept.{IsChain, AreVersions, IsUnseenBy, IsWork}
 use Rattle.rdb_shown.specs.Changes.{HasNone}
 use Rattle.rdb_shown.proofs.ChainMaps.{Rises, ascending_from}

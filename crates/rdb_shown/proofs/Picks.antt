@@ -1,5 +1,5 @@
 -- What a reader picks of versions: the first of its own, or else the one of the greatest number.
-use Rattle.std.proofs.Common.{◌≡◌, ℕ, ◌<◌, ◌≤◌, Bool, true, false, cond, ◌⊎◌, inl, inr, List, [], ◌∷◌, ◌++◌, Option, Some, None, is_some, nat_lt, refl, sym, ap, subst, ◌∙◌, arith}
+use Rattle.std.proofs.Common.{◌≡◌, ℕ, Bool, true, false, cond, ◌⊎◌, inl, inr, List, [], ◌∷◌, ◌++◌, Option, Some, None, is_some, refl, sym, ap, subst, ◌∙◌, arith}
 use Rattle.std.specs.Prelude.{option_and_then}
 use Rattle.std.specs.List.{find, AllByRecursion}
 use Rattle.std.specs.Option.{option_or}
@@ -120,9 +120,9 @@ module _ {V : Type 0} where
         below (exceeds (option_and_then f others) (f x)) refl e took.1,
       )
       go false e took = inl (
-        now took.0 ∙ ap (λ b. cond b (Some v) single) e
-        ∙ sym (ap (λ b. cond b others single) (exceeds_less (option_and_then f others) (f x) (f v) took.1 e))
-      )
+          now took.0 ∙ ap (λ b. cond b (Some v) single) e
+          ∙ sym (ap (λ b. cond b others single) (exceeds_less (option_and_then f others) (f x) (f v) took.1 e))
+          )
 
       part : (with_v ≡ others) ⊎ ((with_v ≡ Some v) × (exceeds (option_and_then f others) (f v) ≡ false))
           → (greatest f ((x ∷ xs) ++ v ∷ back) ≡ greatest f ((x ∷ xs) ++ back))

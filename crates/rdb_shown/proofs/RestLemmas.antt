@@ -1,19 +1,18 @@
 -- A chain without a transaction's own version, if it has one.
-use Rattle.std.proofs.Common.{◌≡◌, ◌≢◌, ℕ, ◌<◌, ◌≤◌, Bool, true, false, cond, ◌⊎◌, inl, inr, List, [], ◌∷◌, ◌++◌, Option, Some, None, refl, sym, ap, subst, ◌∙◌, arith}
+use Rattle.std.proofs.Common.{◌≡◌, ◌≢◌, ℕ, Bool, true, false, cond, ◌⊎◌, inl, inr, List, [], ◌∷◌, ◌++◌, Option, Some, None, refl, sym, ap, subst, ◌∙◌}
 use Rattle.std.specs.Prelude.{option_and_then}
-use Rattle.std.specs.List.{find, AllPairs, AllByRecursion}
+use Rattle.std.specs.List.{AllPairs}
 use Rattle.std.specs.Option.{option_map}
 use Rattle.rdb_base.specs.declared.identity.TxId.{TxId}
-use Rattle.rdb_base.specs.declared.identity.Stamp.{Stamp}
 use Rattle.rdb_base.specs.declared.identity.Stamp.TheVariants as stamp
 use Rattle.rdb_base.specs.declared.journal.Entry.{Entry}
 use Rattle.rdb_sight.specs.Sight.{is_own, commit_within}
 use Rattle.rdb_sight.specs.Versions.{Version, Versions, Marks, chain_in, IsWithout, counted, row_shown, own_version}
 use Rattle.rdb_model.specs.Database.{Row}
 use Rattle.rdb_shown.specs.Kept.{AreOfTwo, IsChain, IsUnseenBy}
-use Rattle.rdb_shown.specs.Changes.{HasChain, PutsFirst, PutsAgain, Puts}
+use Rattle.rdb_shown.specs.Changes.{HasChain, Puts}
 use Rattle.rdb_shown.proofs.Pairs.{Pairs, pairs_from, pairs_to, all_always, all_weaker, all_join, pairs_before, pairs_behind}
-use Rattle.rdb_shown.proofs.StampLemmas.{own_itself, own_is, others_own, counted_by, counted_own, own_counted}
+use Rattle.rdb_shown.proofs.StampLemmas.{own_itself, own_is, others_own, counted_own, own_counted}
 use Rattle.rdb_shown.proofs.Picks.{find_without, find_none, none_found, pick_without, pick_same}
 use Rattle.rdb_shown.proofs.KeptLemmas.{chain_without, pairs_kept}
 

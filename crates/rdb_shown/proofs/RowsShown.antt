@@ -1,16 +1,15 @@
 -- The rows that objects show, one by one and as databases.
-use Rattle.std.proofs.Common.{◌≡◌, ℕ, zero, suc, ◌<◌, ◌≤◌, Bool, true, false, cond, List, [], ◌∷◌, length, map, filter_map, Option, Some, None, nat_eq, nat_lt, refl, sym, ap, subst, ◌∙◌, arith}
+use Rattle.std.proofs.Common.{◌≡◌, ℕ, zero, suc, ◌<◌, Bool, true, false, cond, List, [], ◌∷◌, length, Option, Some, None, nat_eq, nat_lt, refl, sym, ap, subst, ◌∙◌, arith}
 use Rattle.std.specs.List.{AllByRecursion, cons_option}
 use Rattle.std.specs.Option.{option_map}
-use Rattle.std.proofs.lemmas.Bool.{cases_lt}
 use Rattle.std.proofs.lemmas.Bool.Decides.{nat_tests}
 use Rattle.std.proofs.lemmas.List.{ext_get_or, length-map}
 use Rattle.rdb_base.specs.declared.identity.TxId.{TxId}
-use Rattle.rdb_sight.specs.Versions.{Version, Object, Versions, Marks, chain_of, objects_in, chain_in, row_shown, rows_shown, shown}
+use Rattle.rdb_sight.specs.Versions.{Object, Versions, Marks, chain_of, objects_in, chain_in, row_shown, rows_shown, shown}
 use Rattle.rdb_model.specs.Database.{Row, Objects, Database, row_of, objects_of, IsInOrder}
 use Rattle.rdb_model.proofs.Rising.{IsRising}
 use Rattle.rdb_model.proofs.OrderedLemmas.{rising_from, ascending_from}
-use Rattle.rdb_shown.proofs.ChainMaps.{Rises, chain_below}
+use Rattle.rdb_shown.proofs.ChainMaps.{Rises}
 
 -- an object before all of a list is none of it
 row_below : (os : Objects) (id : ℕ) → AllByRecursion (λ q. id < q.0) os → row_of os id ≡ None

@@ -1,5 +1,5 @@
 -- A commit that a transaction doesn't see and that wrote an object which it wrote too touches it: validation lets no such one pass.
-use Rattle.std.proofs.Common.{◌≡◌, ◌≢◌, ℕ, zero, suc, ◌+◌, ◌-◌, ◌<◌, ◌≤◌, Bool, true, false, cond, ◌&&◌, ◌||◌, ◌==◌, not, ◌⊎◌, inl, inr, List, [], ◌∷◌, ◌++◌, length, filter_map, slice_get, Option, Some, None, IsSome, is_some, MatchOption, unwrap_or, nat_eq, All, Contains, refl, sym, ap, subst, ◌∙◌, arith}
+use Rattle.std.proofs.Common.{◌≡◌, ℕ, zero, suc, ◌+◌, ◌-◌, ◌<◌, ◌≤◌, Bool, true, false, cond, ◌&&◌, ◌||◌, ◌==◌, ◌⊎◌, inl, inr, List, [], ◌∷◌, ◌++◌, length, filter_map, slice_get, Option, Some, None, IsSome, is_some, MatchOption, unwrap_or, nat_eq, All, Contains, refl, sym, ap, subst, ◌∙◌, arith}
 use Rattle.std.specs.List.{list_any, cons_option}
 use Rattle.std.specs.Option.{option_map_or, option_or}
 use Rattle.std.proofs.lemmas.Bool.Decides.{nat_tests}
@@ -33,7 +33,7 @@ use Rattle.rdb_history.specs.Rows.{same_object, row_left, wrote, done_in}
 use Rattle.rdb_history.proofs.ListLemmas.{get_there}
 use Rattle.rdb_history.proofs.ObjectLemmas.{same_are_one}
 use Rattle.rdb_shown.specs.Kept.{last_left}
-use Rattle.rdb_shown.proofs.AnswerLemmas.{set_row, answer_wrote, set_elsewhere}
+use Rattle.rdb_shown.proofs.AnswerLemmas.{answer_wrote, set_elsewhere}
 
 any_or : {A : Type 0} (p : A → Bool) (o : Option A) (xs : List A) → list_any p xs ≡ true → list_any p (cons_option o xs) ≡ true
 any_or p None xs e = e
@@ -256,7 +256,7 @@ no_other_wrote within schema journal story law valid (suc k) object r s above le
         let before : suc k - 1 ≡ k = omega arith in
         let place : rests.place + 1 - 1 ≡ rests.place = omega arith in
         let touch : touched schema (fold schema journal k) (entry.Commit commit.own (suc k)) story (rests.place + 1) ≡ true =
-            touching (fold schema journal k) commit.own (suc k) rests (rests.place + 1 - 1) (ap (slice_get story.done) place ∙ rests.at) wrote_it in
+        touching (fold schema journal k) commit.own (suc k) rests (rests.place + 1 - 1) (ap (slice_get story.done) place ∙ rests.at) wrote_it in
         let none : touched schema (fold schema journal (suc k - 1)) (entry.Commit commit.own (suc k)) story (rests.place + 1) ≡ false = valid.touches_none commit.own (suc k) stands above (rests.place + 1) in
         let none_here : touched schema (fold schema journal k) (entry.Commit commit.own (suc k)) story (rests.place + 1) ≡ false = subst (λ (m : ℕ). touched schema (fold schema journal m) (entry.Commit commit.own (suc k)) story (rests.place + 1) ≡ false) before none in
         (cc)

@@ -1,9 +1,8 @@
 -- What the versions keep beside the journal, and what a transaction's own versions are. An object is a pair of its class and its id.
-use Rattle.std.specs.Prelude.{◌≡◌, ℕ, ◌<◌, ◌≤◌, Bool, List, [], ◌∷◌, Option, Some, None, if◌then◌else◌}
+use Rattle.std.specs.Prelude.{◌≡◌, ℕ, ◌<◌, ◌≤◌, List, [], ◌∷◌, Option, Some, None, if◌then◌else◌}
 use Rattle.std.specs.List.{All, AllPairs}
 use Rattle.std.specs.Option.{option_map, option_or}
 use Rattle.rdb_base.specs.declared.identity.TxId.{TxId}
-use Rattle.rdb_base.specs.declared.identity.Stamp.{Stamp}
 use Rattle.rdb_base.specs.declared.identity.Stamp.TheVariants as stamp
 use Rattle.rdb_base.specs.declared.operation.Op.{Op}
 use Rattle.rdb_base.specs.declared.operation.Reply.{Reply}

@@ -1,25 +1,14 @@
 //! Versions taken out of their chains, and stamps written: what nobody sees.
 
-ghost use Rattle.std.specs.Prelude.{◌≡◌, ◌≢◌, ℕ, ◌+◌, ◌<◌, ◌≤◌, List, [], ◌∷◌, ◌++◌, length, replicate, Option, Some, None, false};
-ghost use Rattle.rdb_base.specs.Entries.{is_commit};
+ghost use Rattle.std.specs.Prelude.{◌≡◌, ◌≢◌, ℕ, List, Option, Some, None};
 ghost use Rattle.rdb_base.specs.declared.identity.TxId.{TxId};
 ghost use Rattle.rdb_base.specs.declared.operation.Op.{Op};
 ghost use Rattle.rdb_base.specs.declared.operation.Reply.{Reply};
-ghost use Rattle.rdb_base.specs.declared.journal.Story.{Story};
 ghost use Rattle.rdb_base.specs.declared.journal.Entry.{Entry};
-ghost use Rattle.rdb_base.specs.declared.journal.Entry.TheVariants as entry;
-ghost use Rattle.rdb_schema.specs.declared.schema.Schema.{Schema};
-ghost use Rattle.rdb_sight.specs.Versions.{Versions, Marks, chain_in, shown, row_shown};
-ghost use Rattle.rdb_model.specs.declared.legality.Span.{Span};
-ghost use Rattle.rdb_model.specs.Database.{Row, Database, empty, objects_of, row_of, IsInOrder};
-ghost use Rattle.rdb_model.specs.Answer.{answer};
-ghost use Rattle.rdb_model.specs.Journal.{commits, fold};
-ghost use Rattle.rdb_model.specs.Parts.{KeepsLaw};
-ghost use Rattle.rdb_model.specs.Touch.{written_by};
-ghost use Rattle.rdb_model.specs.Validation.{IsNew, IsValid};
-ghost use Rattle.rdb_history.specs.Rows.{row_left};
+ghost use Rattle.rdb_sight.specs.Versions.{Versions, Marks, shown};
+ghost use Rattle.rdb_model.specs.Database.{objects_of, row_of};
 ghost use Rattle.rdb_shown.specs.Kept.{AreVersions, IsWork};
-ghost use Rattle.rdb_shown.specs.Changes.{Puts, DropsOwn, DropsGarbage, Stamps, IsMarked, IsUnmarked, HasNone, IsAtLeast};
+ghost use Rattle.rdb_shown.specs.Changes.{DropsOwn, DropsGarbage, Stamps, IsAtLeast};
 
 /// A transaction's own version is dropped. Of that object it is then shown what its snapshot shows, of all others what it was shown, and
 /// everybody else is shown what they were.

@@ -1,8 +1,8 @@
 -- Which version of an object a reader sees. A reader has a snapshot, which is the number of commits that it sees, and may have a
 -- transaction of its own.
-use Rattle.std.specs.Prelude.{◌≡◌, ◌≢◌, ℕ, Bool, true, false, ◌&&◌, ◌||◌, ◌==◌, nat_le, nat_lt, not, List, [], ◌∷◌, Option, Some, None, is_some, option_and_then, if◌then◌else◌}
-use Rattle.std.specs.List.{find, AllPairs}
-use Rattle.std.specs.Option.{option_map_or, option_or}
+use Rattle.std.specs.Prelude.{ℕ, Bool, true, false, ◌&&◌, ◌||◌, ◌==◌, nat_le, nat_lt, not, List, [], ◌∷◌, Option, Some, None, is_some, option_and_then, if◌then◌else◌}
+use Rattle.std.specs.List.{find}
+use Rattle.std.specs.Option.{option_or}
 use Rattle.rdb_base.specs.declared.identity.TxId.{TxId}
 use Rattle.rdb_base.specs.declared.identity.Stamp.{Stamp}
 use Rattle.rdb_base.specs.declared.identity.Stamp.TheVariants as stamp
@@ -46,10 +46,6 @@ abbrev pub is_better : ℕ → Option TxId → Option Stamp → Stamp → Bool
 is_better snapshot own None version = is_own own version || is_some (commit_within snapshot version)
 is_better snapshot own (Some best) version =
     not (is_own own best) && (is_own own version || exceeds (commit_within snapshot version) (commit_within snapshot best))
-
--- that no two versions have one stamp: the numbers of their commits differ, and no transaction stands twice
-abbrev pub HaveOwnStamps : List Sighted → Type 0
-HaveOwnStamps versions = AllPairs (λ v w. v.stamp ≢ w.stamp) versions
 
 -- the version that a reader sees, unless it is a tombstone: then there is no object
 abbrev pub seen_row : ℕ → Option TxId → List Sighted → Option Sighted

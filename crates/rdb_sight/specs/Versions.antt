@@ -1,6 +1,6 @@
 -- The versions of a region, without its cells: for each class its objects in ascending id, each with the chain of its versions, newest
 -- first; and the rows that they show to a reader.
-use Rattle.std.specs.Prelude.{◌≡◌, ℕ, ◌<◌, Bool, List, [], ◌∷◌, ◌++◌, map, is_none, Option, Some, None, nat_lt, nat_eq, ◌==◌, not, option_and_then, slice_index_or, slice_set, if◌then◌else◌, length}
+use Rattle.std.specs.Prelude.{◌≡◌, ℕ, ◌<◌, Bool, List, [], ◌∷◌, ◌++◌, map, is_none, Option, Some, nat_lt, ◌==◌, option_and_then, slice_index_or, slice_set, if◌then◌else◌, length}
 use Rattle.std.specs.List.{filter_map, find, AllPairs}
 use Rattle.std.specs.Option.{option_map, option_map_or}
 use Rattle.rdb_base.specs.declared.identity.TxId.{TxId}

@@ -6,7 +6,7 @@ ghost use Rattle.std.specs.Prelude.{◌≡◌, ℕ, ◌<◌, List, [], ◌∷◌
 ghost use Rattle.std.specs.Option.{option_map};
 ghost use Rattle.rdb_base.specs.declared.identity.TxId.{TxId};
 ghost use Rattle.rdb_base.specs.declared.identity.Stamp.{Stamp};
-ghost use Rattle.rdb_sight.specs.Sight.{is_own, commit_within, exceeds, is_better, seen, seen_row, HaveOwnStamps};
+ghost use Rattle.rdb_sight.specs.Sight.{is_own, commit_within, exceeds, is_better, seen, seen_row};
 ghost use Rattle.rdb_sight.specs.Garbage.{all_have, is_garbage};
 ghost use Rattle.rdb_sight.specs.Versions.{Marks, Version, counted, version_seen};
 
@@ -41,7 +41,10 @@ pub fn is_better(best: Option<Stamp>, stamp: Stamp, snapshot: u64, tx: TxId) -> 
         Some(before) => {
             !is_own(before, tx)
                 && (is_own(stamp, tx)
-                    || exceeds(commit_within(stamp, snapshot), commit_within(before, snapshot)))
+                    || exceeds(
+                        commit_within(stamp, snapshot),
+                        commit_within(before, snapshot),
+                    ))
         }
         None => is_own(stamp, tx) || commit_within(stamp, snapshot).is_some(),
     }
@@ -79,9 +82,9 @@ fn exceeds(commit: Option<u64>, other: Option<u64>) -> bool
 }
 
 /// The place of the version that a reader sees of an object: the one of its own transaction, or else the one of the latest commit that its
-/// snapshot has. None exactly where there is no such version or it is a tombstone. The cost grows with the number of versions.
+/// snapshot has; the first such one, where versions shared a stamp. None exactly where there is no such version or it is a tombstone. The
+/// cost grows with the number of versions.
 pub fn seen(versions: &[Sighted], snapshot: u64, tx: TxId) -> Option<usize>
-    requires { HaveOwnStamps versions.now }
     ensures none { IfNone result (seen_row snapshot (Some tx) versions.now ≡ None) }
     ensures there { IfSome result (λ place. place < length versions.now) }
     ensures place { IfSome result (λ place. slice_get versions.now place ≡ seen_row snapshot (Some tx) versions.now) }
@@ -91,18 +94,31 @@ pub fn seen(versions: &[Sighted], snapshot: u64, tx: TxId) -> Option<usize>
         best = better_of(best, (place, versions[place].stamp), snapshot, tx);
     }
     let (place, _) = best?;
-    if versions[place].tombstone { None } else { Some(place) }
+    if versions[place].tombstone {
+        None
+    } else {
+        Some(place)
+    }
 }
 
 // The better of two versions, each its place and its stamp, where the first stands before the second, if there is a first.
-fn better_of(best: Option<(usize, Stamp)>, other: (usize, Stamp), snapshot: u64, tx: TxId) -> Option<(usize, Stamp)>
+fn better_of(
+    best: Option<(usize, Stamp)>,
+    other: (usize, Stamp),
+    snapshot: u64,
+    tx: TxId,
+) -> Option<(usize, Stamp)>
     ensures { result ≡ (if is_better snapshot (Some tx) (option_map (λ b. b.1) best) other.1 then Some other else best) }
 {
     let before = match best {
         Some((_, stamp)) => Some(stamp),
         None => None,
     };
-    if is_better(before, other.1, snapshot, tx) { Some(other) } else { best }
+    if is_better(before, other.1, snapshot, tx) {
+        Some(other)
+    } else {
+        best
+    }
 }
 
 /// Whether a version is garbage, so that no reader can see it any more. `newer` is the least number of a commit of the object's newer

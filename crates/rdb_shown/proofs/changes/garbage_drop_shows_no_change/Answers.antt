@@ -1,4 +1,4 @@
-use Rattle.std.proofs.Common.{◌≡◌, ◌∷◌, ◌++◌, Some, refl, sym, ap, subst, ◌∙◌}
+use Rattle.std.proofs.Common.{◌++◌, Some, refl, sym, ap, subst, ◌∙◌}
 use Rattle.rdb_sight.specs.Versions.{chain_in, row_shown, own_version}
 use Rattle.rdb_shown.specs.Kept.{IsChain, IsUnseenBy}
 use Rattle.rdb_shown.proofs.Picks.{find_without}

@@ -1,4 +1,4 @@
-use Rattle.std.proofs.Common.{◌≡◌, ◌≢◌, inr, Some, None, refl, sym, ap, ◌∙◌}
+use Rattle.std.proofs.Common.{inr, Some, None, sym, ap, ◌∙◌}
 use Rattle.rdb_sight.specs.Versions.{chain_in, row_shown}
 use Rattle.rdb_shown.specs.Kept.{IsUnseenBy}
 use Rattle.rdb_shown.proofs.ChainMaps.{rises_after}

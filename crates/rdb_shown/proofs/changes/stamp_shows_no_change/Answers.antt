@@ -1,10 +1,7 @@
-use Rattle.std.proofs.Common.{◌≡◌, ◌≢◌, ◌∷◌, ◌++◌, List, Some, None, refl, sym, ap, subst, ◌∙◌, false, true, Bool}
+use Rattle.std.proofs.Common.{◌≡◌, ◌≢◌, ◌∷◌, ◌++◌, List, Some, None, refl, sym, ap, subst, ◌∙◌}
 use Rattle.std.specs.List.{AllPairs}
-use Rattle.rdb_base.specs.declared.identity.TxId.{TxId}
-use Rattle.rdb_base.specs.declared.identity.Stamp.TheVariants as stamp
-use Rattle.rdb_sight.specs.Versions.{Version, Versions, Marks, chain_in, row_shown, own_version}
+use Rattle.rdb_sight.specs.Versions.{Version, row_shown, own_version}
 use Rattle.rdb_shown.specs.Kept.{IsChain, IsUnseenBy}
-use Rattle.rdb_shown.specs.Changes.{Stamps}
 use Rattle.rdb_shown.proofs.KeptLemmas.{in_order, kept_after, same_work_after, same_shown, chain_restamped}
 use Rattle.rdb_shown.proofs.StampLemmas.{counted_marked, others_own}
 use Rattle.rdb_shown.proofs.StampedLemmas.{same_sights, restamped_sights, restamped_own, restamped_unseen}

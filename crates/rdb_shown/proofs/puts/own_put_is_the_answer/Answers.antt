@@ -1,11 +1,7 @@
-use Rattle.std.proofs.Common.{◌≡◌, ◌≢◌, ℕ, ◌<◌, Option, Some, None, true, List, length, ◌∷◌, cond, refl, sym, ap, subst, ◌∙◌, arith}
-use Rattle.std.specs.List.{AllPairs}
-use Rattle.std.specs.Option.{option_map}
+use Rattle.std.proofs.Common.{◌≡◌, ◌<◌, Some, length, ◌∷◌, cond, sym, ap, ◌∙◌, arith}
 use Rattle.std.proofs.lemmas.List.{length-map}
-use Rattle.rdb_base.specs.declared.identity.Stamp.TheVariants as stamp
-use Rattle.rdb_sight.specs.Versions.{Version, chain_in, counted, row_shown, rows_shown, shown, own_version}
-use Rattle.rdb_sight.specs.Sight.{is_own}
-use Rattle.rdb_model.specs.Database.{Row, row_of, objects_of}
+use Rattle.rdb_sight.specs.Versions.{chain_in, row_shown, rows_shown, shown}
+use Rattle.rdb_model.specs.Database.{row_of, objects_of}
 use Rattle.rdb_model.specs.Answer.{answer}
 use Rattle.rdb_model.proofs.OrderedLemmas.{answer_in_order}
 use Rattle.rdb_model.proofs.AnsweringLemmas.{answer_classes}
@@ -13,11 +9,9 @@ use Rattle.rdb_history.specs.Rows.{row_left}
 use Rattle.rdb_shown.specs.Kept.{last_left, IsUnseenBy}
 use Rattle.rdb_shown.proofs.ChainMaps.{each_object, rises_after, classes_after}
 use Rattle.rdb_shown.proofs.RowsShown.{shown_row, shown_in_order, shows}
-use Rattle.rdb_shown.proofs.Pairs.{all_always, pairs_from, pairs_to}
-use Rattle.rdb_shown.proofs.StampLemmas.{own_itself, others_own, counted_own}
 use Rattle.rdb_shown.proofs.KeptLemmas.{in_order, kept_after, work_after, same_work_after, same_shown, chain_put}
 use Rattle.rdb_shown.proofs.RestLemmas.{put_is, put_seen, put_unseen, rest_chain, rest_pairs, rest_none, rest_others, rest_shown, unseen_put, put_wrote, put_other}
-use Rattle.rdb_shown.proofs.AnswerLemmas.{answer_wrote, set_row, set_here, set_elsewhere, wrote_here, wrote_elsewhere, left_more}
+use Rattle.rdb_shown.proofs.AnswerLemmas.{answer_wrote, set_here, set_elsewhere, wrote_here, wrote_elsewhere, left_more}
 use Rattle.rdb_shown.proofs.puts.own_put_is_the_answer.Goals as goal
 
 pub returns : goal.returns

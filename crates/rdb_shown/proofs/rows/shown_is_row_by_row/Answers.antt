@@ -1,4 +1,3 @@
-use Rattle.rdb_sight.specs.Versions.{objects_in}
 use Rattle.rdb_shown.proofs.KeptLemmas.{in_order}
 use Rattle.rdb_shown.proofs.RowsShown.{shown_row, shown_in_order}
 use Rattle.rdb_shown.proofs.rows.shown_is_row_by_row.Goals as goal
