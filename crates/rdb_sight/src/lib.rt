@@ -95,10 +95,9 @@ pub fn seen(versions: &[Sighted], snapshot: u64, tx: TxId) -> Option<usize>
     }
     let (place, _) = best?;
     if versions[place].tombstone {
-        None
-    } else {
-        Some(place)
+        return None;
     }
+    Some(place)
 }
 
 // The better of two versions, each its place and its stamp, where the first stands before the second, if there is a first.
