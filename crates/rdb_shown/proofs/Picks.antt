@@ -1,20 +1,10 @@
 -- What a reader picks of versions: the first of its own, or else the one of the greatest number.
-use Rattle.std.proofs.Common.{◌≡◌, ℕ, Bool, true, false, cond, ◌⊎◌, inl, inr, List, [], ◌∷◌, ◌++◌, Option, Some, None, is_some, refl, sym, ap, subst, ◌∙◌, arith}
+use Rattle.std.proofs.Common.{◌≡◌, ℕ, Bool, true, false, cond, ◌⊎◌, inl, inr, List, [], ◌∷◌, ◌++◌, Option, Some, None, is_some, refl, sym, ap, subst, ◌∙◌}
 use Rattle.std.specs.Prelude.{option_and_then}
 use Rattle.std.specs.List.{find, AllByRecursion}
 use Rattle.std.specs.Option.{option_or}
-use Rattle.std.proofs.lemmas.Bool.Decides.{nat_tests}
 use Rattle.rdb_sight.specs.Sight.{exceeds, greatest}
-use Rattle.rdb_sight.proofs.SightLemmas.{exceeds_more, exceeds_less, exceeds_none, greatest_number, greatest_more}
-
-exceeds_back : (a b : Option ℕ) → exceeds a b ≡ true → exceeds b a ≡ false
-exceeds_back None b e = (cc)
-exceeds_back (Some n) None e = refl
-exceeds_back (Some n) (Some m) e = grind (arith, nat_tests)
-
-exceeds_itself : (a : Option ℕ) → exceeds a a ≡ false
-exceeds_itself None = refl
-exceeds_itself (Some n) = grind (arith, nat_tests)
+use Rattle.rdb_sight.proofs.SightLemmas.{exceeds_back, exceeds_itself, exceeds_more, exceeds_less, exceeds_none, greatest_number, greatest_more}
 
 module _ {V : Type 0} where
   -- the first of its own, or else the one of the greatest number

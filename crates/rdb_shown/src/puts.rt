@@ -42,5 +42,6 @@ pub fn own_put_is_the_answer()
 /// An operation that writes nothing is no work.
 pub fn reads_are_no_work()
     ensures { (marks : Marks) (versions : Versions) (tx : TxId) (snapshot : ℕ) (done : List (Op × Reply)) (op : Op) (told : Reply) →
-        written_by (op, told) ≡ None → IsWork marks versions tx snapshot done → IsWork marks versions tx snapshot (done ++ (op, told) ∷ []) }
+        written_by (op, told) ≡ None → IsWork marks versions tx snapshot done →
+        IsWork marks versions tx snapshot (done ++ (op, told) ∷ []) }
 {}

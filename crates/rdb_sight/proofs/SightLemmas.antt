@@ -23,6 +23,15 @@ exceeds_less (Some n) b None e f = (cc)
 exceeds_less (Some n) None (Some k) e f = (cc)
 exceeds_less (Some n) (Some m) (Some k) e f = grind (arith, nat_tests)
 
+pub exceeds_back : (a b : Option ℕ) → exceeds a b ≡ true → exceeds b a ≡ false
+exceeds_back None b e = (cc)
+exceeds_back (Some n) None e = refl
+exceeds_back (Some n) (Some m) e = grind (arith, nat_tests)
+
+pub exceeds_itself : (a : Option ℕ) → exceeds a a ≡ false
+exceeds_itself None = refl
+exceeds_itself (Some n) = grind (arith, nat_tests)
+
 pub exceeds_none : (a : Option ℕ) → exceeds a None ≡ is_some a
 exceeds_none None = refl
 exceeds_none (Some n) = refl

@@ -1,13 +1,13 @@
 -- The versions of a region, without its cells: for each class its objects in ascending id, each with the chain of its versions, newest
 -- first; and the rows that they show to a reader.
-use Rattle.std.specs.Prelude.{◌≡◌, ℕ, ◌<◌, Bool, List, [], ◌∷◌, ◌++◌, map, is_none, Option, Some, nat_lt, ◌==◌, option_and_then, slice_index_or, slice_set, if◌then◌else◌, length}
-use Rattle.std.specs.List.{filter_map, find, AllPairs}
+use Rattle.std.specs.Prelude.{◌≡◌, ℕ, ◌<◌, Bool, List, [], ◌∷◌, ◌++◌, map, is_none, is_some, true, false, Option, Some, None, nat_lt, ◌==◌, option_and_then, slice_index_or, slice_set, if◌then◌else◌, length}
+use Rattle.std.specs.List.{filter_map, find, All, AllPairs}
 use Rattle.std.specs.Option.{option_map, option_map_or}
 use Rattle.rdb_base.specs.declared.identity.TxId.{TxId}
 use Rattle.rdb_base.specs.declared.identity.Stamp.{Stamp}
 use Rattle.rdb_base.specs.declared.identity.Stamp.TheVariants as stamp
 use Rattle.rdb_base.specs.declared.value.Value.{Value}
-use Rattle.rdb_sight.specs.Sight.{is_own, seen}
+use Rattle.rdb_sight.specs.Sight.{is_own, commit_within, exceeds, seen}
 use Rattle.rdb_sight.specs.Garbage.{least_commit, is_garbage}
 
 -- one version of an object: the number of its header's cell, its serial, its stamp as it stands there, and its row, or none where it is
@@ -79,6 +79,17 @@ counted marks (stamp.Done commit) = stamp.Done commit
 -- the version of an object that a reader sees, with the marks counted
 abbrev pub version_seen : Marks → ℕ → Option TxId → List Version → Option Version
 version_seen marks snapshot own chain = seen (λ v. counted marks v.stamp) snapshot own chain
+
+-- that a version is of the latest commit that a snapshot has, of a chain without the reader's own versions
+pub record IsLatest (marks : Marks) (snapshot : ℕ) (own : Option TxId) (chain : List Version) (v : Version) : Type 0 where
+  pub none_own : All (λ w. is_own own (counted marks w.stamp) ≡ false) chain
+  pub within : is_some (commit_within snapshot (counted marks v.stamp)) ≡ true
+  pub latest : All (λ w. exceeds (commit_within snapshot (counted marks w.stamp)) (commit_within snapshot (counted marks v.stamp)) ≡ false) chain
+
+-- that a reader sees no version of a chain: none is its own, and its snapshot has the commit of none
+pub record SeesNone (marks : Marks) (snapshot : ℕ) (own : Option TxId) (chain : List Version) : Type 0 where
+  pub none_own : All (λ w. is_own own (counted marks w.stamp) ≡ false) chain
+  pub none_within : All (λ w. commit_within snapshot (counted marks w.stamp) ≡ None) chain
 
 -- the row that an object shows to a reader: none where the reader sees none of its versions, or a tombstone
 abbrev pub row_shown : Marks → ℕ → Option TxId → List Version → Option (List Value)

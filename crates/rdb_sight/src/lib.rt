@@ -2,13 +2,14 @@
 //! and takes no memory.
 #![tactic(auto)]
 
-ghost use Rattle.std.specs.Prelude.{◌≡◌, ℕ, ◌<◌, List, [], ◌∷◌, ◌++◌, length, slice_get, Option, Some, None, IfSome, IfNone, if◌then◌else◌};
+ghost use Rattle.std.specs.Prelude.{◌≡◌, ◌⊎◌, true, ℕ, ◌<◌, List, [], ◌∷◌, ◌++◌, length, slice_get, Option, Some, None, IfSome, IfNone, if◌then◌else◌};
+ghost use Rattle.std.specs.List.{Contains};
 ghost use Rattle.std.specs.Option.{option_map};
 ghost use Rattle.rdb_base.specs.declared.identity.TxId.{TxId};
 ghost use Rattle.rdb_base.specs.declared.identity.Stamp.{Stamp};
 ghost use Rattle.rdb_sight.specs.Sight.{is_own, commit_within, exceeds, is_better, seen, seen_row};
 ghost use Rattle.rdb_sight.specs.Garbage.{all_have, is_garbage};
-ghost use Rattle.rdb_sight.specs.Versions.{Marks, Version, counted, version_seen};
+ghost use Rattle.rdb_sight.specs.Versions.{Marks, Version, counted, version_seen, IsLatest, SeesNone};
 
 use rdb_base::identity::{Stamp, TxId};
 
@@ -149,6 +150,19 @@ fn all_have(floor: Option<u64>, commit: u64) -> bool
 pub fn seen_goes_on()
     ensures { (marks : Marks) (snapshot : ℕ) (own : Option TxId) (chain : List Version) (v : Version) →
         version_seen marks snapshot own (chain ++ v ∷ [])
-        ≡ (if is_better snapshot own (option_map (λ w. counted marks w.stamp) (version_seen marks snapshot own chain)) (counted marks v.stamp)
+        ≡ (if is_better snapshot own
+        (option_map (λ w. counted marks w.stamp) (version_seen marks snapshot own chain)) (counted marks v.stamp)
         then Some v else version_seen marks snapshot own chain) }
+{}
+
+/// Does nothing: the version that a reader sees is one of the chain. It is the reader's own, or it is of the latest commit that the snapshot
+/// has, of a chain without the reader's own. Where none is seen, none is the reader's own and none is of a commit that the snapshot has.
+pub fn seen_is_own_or_latest()
+    ensures there { (marks : Marks) (snapshot : ℕ) (own : Option TxId) (chain : List Version) (v : Version) →
+        version_seen marks snapshot own chain ≡ Some v → Contains chain v }
+    ensures found { (marks : Marks) (snapshot : ℕ) (own : Option TxId) (chain : List Version) (v : Version) →
+        version_seen marks snapshot own chain ≡ Some v →
+        (is_own own (counted marks v.stamp) ≡ true) ⊎ IsLatest marks snapshot own chain v }
+    ensures none { (marks : Marks) (snapshot : ℕ) (own : Option TxId) (chain : List Version) →
+        version_seen marks snapshot own chain ≡ None → SeesNone marks snapshot own chain }
 {}
