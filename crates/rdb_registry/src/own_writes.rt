@@ -1,0 +1,195 @@
+//! The objects that an open transaction wrote, in the order of class, then id, each once with the header of its version, in room that is
+//! reserved. It touches its own vector alone.
+
+ghost use Rattle.std.specs.Prelude.{◌≡◌, ◌≢◌, ◌-◌, ◌+◌, ◌<◌, ◌≤◌, ◌==◌, ◌∷◌, ◌++◌, ℕ, [], length, take, drop, insert, remove, None, Some, OnOk, OnErr, slice_get, slice_set, vec_capacity};
+ghost use Rattle.std.specs.Option.{option_copied};
+ghost use Rattle.rdb_registry.specs.OwnWrites.{header_of, header_at, is_before, AreOrdered, AllBefore, NoneBefore};
+
+use rdb_base::limits::MAX_PLACES;
+use rdb_base::list::NoMemory;
+use rdb_pages::CellRef;
+use std::alloc::{AllocError, Global};
+use std::marker::Model;
+
+/// An object that a transaction wrote, and the header of the version that it wrote of it.
+#[derive(Clone, Copy, Debug, PartialEq, Eq)]
+pub struct OwnWrite {
+    pub class: u32,
+    pub id: u64,
+    pub header: CellRef,
+}
+
+/// The objects that a transaction wrote, each once. Contracts see them in the order of class, then id, and how many more there is room
+/// for. A look-up costs a search among them by halves; a write or a removal moves those behind it.
+#[derive(Debug, Drop)]
+pub struct OwnWrites {
+    writes: Vec<OwnWrite>,
+    room: usize,
+}
+
+impl Model for OwnWrites {
+    ghost use Rattle.std.specs.Prelude.{◌+◌, ◌≤◌, vec_len, vec_capacity};
+    ghost use Rattle.rdb_base.specs.Room.{Reserved};
+    ghost use Rattle.rdb_base.specs.declared.limits.TheConstants.{MAX_PLACES};
+    ghost use Rattle.rdb_registry.specs.declared.own_writes.OwnWrite.{OwnWrite as Written};
+    ghost use Rattle.rdb_registry.specs.OwnWrites.{AreOrdered};
+
+    ghost Value = { Reserved Written };
+
+    ghost view = { λ o. record { items = o.writes.items; room = o.room } };
+
+    ghost invariant = { λ o. (vec_len o.writes + o.room ≤ vec_capacity o.writes) × (vec_len o.writes + o.room ≤ MAX_PLACES) × AreOrdered o.writes.items };
+}
+
+// Whether a write is of an object before another.
+fn is_before(write: &OwnWrite, class: u32, id: u64) -> bool
+    ensures { result ≡ is_before (class, id) write.now }
+{
+    write.class < class || (write.class == class && write.id < id)
+}
+
+// How many of the writes are of objects before this one.
+fn place_of(writes: &[OwnWrite], class: u32, id: u64) -> usize
+    requires { AreOrdered writes.now }
+    ensures bound { result ≤ length writes.now }
+    ensures before { AllBefore (class, id) (take result writes.now) }
+    ensures from { NoneBefore (class, id) (drop result writes.now) }
+{
+    writes.partition_point(|write| is_before(write, class, id))
+}
+
+// The header of the object, if the write at a place is of it.
+fn header_at(writes: &[OwnWrite], place: usize, class: u32, id: u64) -> Option<CellRef>
+    ensures { result ≡ header_at (class, id) (slice_get writes.now place) }
+{
+    let write = writes.get(place)?;
+    if write.class == class && write.id == id { Some(write.header) } else { None }
+}
+
+impl OwnWrites {
+    /// No object, and no room. It takes no memory.
+    pub fn new(alloc: Global) -> OwnWrites
+        ensures { result ≡ record { items = []; room = 0 } }
+    {
+        OwnWrites {
+            writes: Vec::new(alloc),
+            room: 0,
+        }
+    }
+
+    /// Reserves room for so many further objects, beside the room that there is. Where memory is wanting, or objects and room would be more
+    /// than `MAX_PLACES`, nothing changes.
+    pub fn reserve(&mut self, more: usize) -> Result<(), NoMemory>
+        ensures ok { OnOk result (self.new ≡ record self.old { room = self.old.room + more }) }
+        ensures err { OnErr result (self.new ≡ self.old) }
+    {
+        let places = self.writes.len() + self.room;
+        if more > MAX_PLACES - places {
+            return Err(AllocError);
+        }
+        self.writes.reserve(self.room + more)?;
+        self.room += more;
+        Ok(())
+    }
+
+    /// Says that the objects stand in the order of class, then id, each once. It does nothing.
+    pub fn ordered(&self)
+        ensures { AreOrdered self.now.items }
+    {
+        let _ = &self.writes;
+    }
+
+    /// Notes the header of the version that was written of an object: in the place of its earlier one, or in reserved room where the object
+    /// is new. It takes no memory.
+    pub fn put(&mut self, class: u32, id: u64, header: CellRef)
+        requires { header_of self.old.items (class, id) ≡ None → 0 < self.old.room }
+        ensures here { header_of self.new.items (class, id) ≡ Some header }
+        ensures others { (object : ℕ × ℕ) → object ≢ (class, id) → header_of self.new.items object ≡ header_of self.old.items object }
+        ensures room { self.new.room + length self.new.items ≡ self.old.room + length self.old.items }
+    {
+        let place = place_of(&self.writes, class, id);
+        let write = OwnWrite { class, id, header };
+        if header_at(&self.writes, place, class, id).is_some() {
+            self.writes[place] = write;
+        } else {
+            self.insert(place, write);
+        }
+    }
+
+    // Puts a new object between those before it and those behind it.
+    fn insert(&mut self, place: usize, write: OwnWrite)
+        requires place { place ≤ length self.old.items }
+        requires room { 0 < self.old.room }
+        requires ordered { AreOrdered (insert self.old.items place write) }
+        ensures { self.new ≡ record { items = insert self.old.items place write; room = self.old.room - 1 } }
+    {
+        match self.writes.insert(place, write) {
+            Ok(()) => self.room -= 1,
+            Err(_) => unreachable!(),
+        }
+    }
+
+    /// Forgets an object, if it is there; its place becomes room. It takes no memory.
+    pub fn remove(&mut self, class: u32, id: u64)
+        ensures here { header_of self.new.items (class, id) ≡ None }
+        ensures others { (object : ℕ × ℕ) → object ≢ (class, id) → header_of self.new.items object ≡ header_of self.old.items object }
+        ensures room { self.new.room + length self.new.items ≡ self.old.room + length self.old.items }
+    {
+        let place = place_of(&self.writes, class, id);
+        if header_at(&self.writes, place, class, id).is_some() {
+            self.writes.remove(place);
+            self.room += 1;
+        }
+    }
+
+    /// Forgets all objects; their places become room. It takes no memory.
+    pub fn clear(&mut self)
+        ensures { self.new ≡ record { items = []; room = self.old.room + length self.old.items } }
+    {
+        self.room += self.writes.len();
+        self.writes.clear();
+    }
+
+    /// The header of the version that was written of an object, if it was written.
+    pub fn get(&self, class: u32, id: u64) -> Option<CellRef>
+        ensures { result ≡ header_of self.now.items (class, id) }
+    {
+        let place = place_of(&self.writes, class, id);
+        header_at(&self.writes, place, class, id)
+    }
+
+    /// The first object in the order of class, then id, if there is one. The cost is constant.
+    pub fn first(&self) -> Option<&OwnWrite>
+        ensures { option_copied result ≡ slice_get self.now.items 0 }
+    {
+        self.writes.first()
+    }
+
+    /// How many objects there are.
+    pub fn len(&self) -> usize
+        ensures { result ≡ length self.now.items }
+    {
+        self.writes.len()
+    }
+
+    /// Whether there is no object.
+    pub fn is_empty(&self) -> bool
+        ensures { result ≡ (length self.now.items == 0) }
+    {
+        self.writes.is_empty()
+    }
+
+    /// How many further objects there is room for.
+    pub fn room(&self) -> usize
+        ensures { result ≡ self.now.room }
+    {
+        self.room
+    }
+
+    /// The objects in their order, lent.
+    pub fn as_slice(&self) -> &[OwnWrite]
+        ensures { result.now ≡ self.now.items }
+    {
+        self.writes.as_slice()
+    }
+}
