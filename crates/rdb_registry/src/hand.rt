@@ -95,6 +95,7 @@ impl Hand {
         if self.undo.room() < UNDO_PLACES {
             self.undo = Undo::reserve(alloc, UNDO_PLACES)?;
         }
+        self.plan.bounded();
         if self.plan.room() < MAX_PLAN {
             self.plan = Plan::reserve(alloc, MAX_PLAN)?;
         }

@@ -8,7 +8,7 @@
 //! | list of the condemned   | `condemned`                                      | `condemn`               |
 //! | spent, by slot and class | `spent`                                         | `spend`                 |
 
-ghost use Rattle.std.specs.Prelude.{◌≡◌, ◌+◌, ◌^◌, ◌<◌, ◌≤◌, ◌∷◌, ◌++◌, ℕ, [], length, replicate, map, position, is_none, slice_set, None, Some, Err, IfOk, OnOk, OnErr, IsSomeAnd};
+ghost use Rattle.std.specs.Prelude.{◌≡◌, ◌+◌, ◌^◌, ◌<◌, ◌≤◌, ◌∷◌, ◌++◌, ℕ, [], length, replicate, map, position, is_none, slice_set, None, Some, Err, IfSome, not, IfOk, OnOk, OnErr, IsSomeAnd};
 ghost use Rattle.std.specs.Option.{option_copied};
 ghost use Rattle.std.specs.Borrow.{sem};
 ghost use Rattle.rdb_registry.specs.Seats.{slot_count, seat_in, seat_of, IsHeld, AllHeld, changed, condemned_in, with_condemned};
@@ -222,12 +222,20 @@ fn unspent(alloc: Global, classes: usize) -> Result<Vec<Vec<u64>>, NoMemory>
     Ok(all)
 }
 
+// The place of the first slot that is free.
+fn first_free(slots: &[Slot]) -> Option<usize>
+    ensures first { result ≡ position (λ slot. not slot.is_held) slots.now }
+    ensures within { IfSome result (λ place. place < length slots.now) }
+{
+    slots.iter().position(|slot| !slot.is_held)
+}
+
 // The lowest slot that is free.
 fn lowest_free(slots: &[Slot]) -> Option<u32>
     requires { length slots.now ≡ slot_count }
     ensures { result ≡ position is_none (seats_of slots.now) }
 {
-    let place = slots.iter().position(|slot| !slot.is_held)?;
+    let place = first_free(slots)?;
     Some(place as u32)
 }
 

@@ -47,13 +47,29 @@ impl Slot {
     }
 }
 
+// The place of the first slot that has an open transaction.
+fn first_open(slots: &[Slot]) -> Option<usize>
+    ensures first { result ≡ position (λ slot. is_some (opening_in (record_of slot))) slots.now }
+    ensures within { IfSome result (λ place. place < length slots.now) }
+{
+    slots.iter().position(|slot| is_open(slot))
+}
+
 // The lowest slot that has an open transaction.
 fn lowest_open(slots: &[Slot]) -> Option<u32>
     requires { length slots.now ≡ slot_count }
     ensures { result ≡ position is_some (openings (seats_of slots.now)) }
 {
-    let place = slots.iter().position(|slot| slot.transaction().is_some())?;
+    let place = first_open(slots)?;
     Some(place as u32)
+}
+
+// The place of the first slot that has an open transaction which may write.
+fn first_writer(slots: &[Slot]) -> Option<usize>
+    ensures first { result ≡ position (λ slot. is_writer (opening_in (record_of slot))) slots.now }
+    ensures within { IfSome result (λ place. place < length slots.now) }
+{
+    slots.iter().position(|slot| is_writer(slot))
 }
 
 // The lowest slot that has an open transaction which may write.
@@ -61,8 +77,15 @@ fn lowest_writer(slots: &[Slot]) -> Option<u32>
     requires { length slots.now ≡ slot_count }
     ensures { result ≡ position is_writer (openings (seats_of slots.now)) }
 {
-    let place = slots.iter().position(|slot| is_writer(slot))?;
+    let place = first_writer(slots)?;
     Some(place as u32)
+}
+
+// Whether a slot has an open transaction.
+fn is_open(slot: &Slot) -> bool
+    ensures { result ≡ is_some (opening_in (record_of slot.now)) }
+{
+    slot.transaction().is_some()
 }
 
 // Whether a slot has an open transaction which may write.

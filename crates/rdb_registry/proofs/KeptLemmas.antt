@@ -1,0 +1,163 @@
+-- What a registry keeps, as one slot is written.
+use Rattle.std.proofs.Common.{◌≡◌, ◌≢◌, ◌<◌, ◌≤◌, ◌+◌, ◌⊎◌, ℕ, zero, suc, Bool, true, false, cond, List, [], ◌∷◌, ◌++◌, length, map, set, Option, Some, None, is_some, is_none, slice_get, option_map, option_and_then, position, MatchOption, count_by, refl, sym, ap, subst, inl, inr, ◌∙◌, arith}
+use Rattle.std.proofs.lemmas.List.{map-set, length-set, length-map}
+use Rattle.std.proofs.lemmas.Option.{slice_get_within, slice_get-map}
+use Rattle.std.proofs.lemmas.Bool.{cases_eq}
+use Rattle.std.proofs.lemmas.Nat.Bits.{bit_at-zero}
+use Rattle.std.specs.Int.{bit_at}
+use Rattle.rdb_base.specs.Room.{Reserved}
+use Rattle.rdb_base.specs.declared.identity.ConnId.{ConnId}
+use Rattle.rdb_registry.specs.declared.hand.Hand.{Hand}
+use Rattle.rdb_registry.specs.declared.seat.Seat.{Seat}
+use Rattle.rdb_registry.specs.declared.seat.Slot.{Slot}
+use Rattle.rdb_registry.specs.declared.seat.Condemnation.{Condemnation}
+use Rattle.rdb_registry.specs.declared.transactions.Openings.{Openings}
+use Rattle.rdb_registry.specs.Seats.{Seats, slot_count, seat_in, seat_of, EachSeat, changed, Opening, openings, opening_in, opening_of, HoldsLatch, condemned_in}
+use Rattle.rdb_registry.specs.Registry.{Roll, IsRoll, IsSeated}
+use Rattle.rdb_registry.specs.Kept.{record_of, seats_of, AreOpenings, is_live, IsSlot, IsKept}
+use Rattle.rdb_registry.proofs.SlotLemmas.{at_set_same, at_set_other, set_same, one_if, count_set, HeldAt, seat_in_of, seat_in_same, seat_in_other, record_at}
+
+-- the slot with another record
+abbrev pub with_seat : Slot → Seat → Slot
+with_seat slot seat = record slot { seat = seat }
+
+-- the records after a write of a slot
+pub seats_of_set : (all : List Slot) (i : ℕ) (slot : Slot) → seats_of (set all i slot) ≡ set (seats_of all) i (record_of slot)
+seats_of_set all i slot = map-set record_of all i slot
+
+-- the record of a slot that is held
+pub record_held : (slot : Slot) → slot.is_held ≡ true → record_of slot ≡ Some slot.seat
+record_held slot held = ap (λ b. cond b (Some slot.seat) None) held
+
+-- a change of the record of a slot that is held
+pub changed_is :
+    (all : List Slot) (i : ℕ) (slot : Slot) (change : Seat → Seat) → slice_get all i ≡ Some slot → slot.is_held ≡ true
+    → seats_of (set all i (with_seat slot (change slot.seat))) ≡ changed (seats_of all) i change
+changed_is all i slot change at held =
+    let was : seat_in (seats_of all) i ≡ Some slot.seat = record_at all i slot at ∙ record_held slot held in
+    seats_of_set all i (with_seat slot (change slot.seat)) ∙ ap (set (seats_of all) i) (record_held (with_seat slot (change slot.seat)) held ∙ sym (ap (option_map change) was))
+
+-- What is kept after a write of a slot, where what stands beside the slots may have changed too.
+pub kept_set :
+    {all : List Slot} {takers takers' : List ℕ} {kept kept' : Openings} {condemned condemned' : Reserved Condemnation} {table : List (List ℕ)} {serials serials' : ℕ}
+    → IsKept all takers kept condemned table serials → (i : ℕ) (slot : Slot) → i < length all
+    → length takers' ≡ length takers
+    → ((j : ℕ) (seat : Seat) → j ≢ i → seat_in (seats_of all) j ≡ Some seat → IsSlot takers' condemned'.items serials' j seat)
+    → ((seat : Seat) → record_of slot ≡ Some seat → IsSlot takers' condemned'.items serials' i seat)
+    → AreOpenings (openings (seats_of (set all i slot))) kept'
+    → count_by is_live (seats_of (set all i slot)) ≤ condemned'.room
+    → ((place : ℕ) (entry : Condemnation) → slice_get condemned'.items place ≡ Some entry → entry.conn.serial ≤ serials')
+    → IsKept (set all i slot) takers' kept' condemned' table serials'
+kept_set {all} {takers} {takers'} {kept} {kept'} {condemned} {condemned'} {table} {serials} {serials'} k i slot lt same others here opened room drawn =
+    let within : i < length (seats_of all) = subst (λ (n : ℕ). i < n) (sym (length-map all record_of)) lt in
+    record {
+      count = length-set all i slot ∙ k.count;
+      classes = rw same k.classes;
+      seated = λ j seat there. at j seat (sym (ap (λ s. seat_in s j) (seats_of_set all i slot)) ∙ there);
+      openings = opened;
+      room = room;
+      drawn = drawn;
+      spent = k.spent;
+      rows = λ j row there. k.rows j row there ∙ sym same;
+    }
+  where
+    at : (j : ℕ) (seat : Seat) → seat_in (set (seats_of all) i (record_of slot)) j ≡ Some seat → IsSlot takers' condemned'.items serials' j seat
+    at j seat there = elim (cases_eq j i) [
+      | inl e ↦
+        let here' : record_of slot ≡ Some seat = sym (seat_in_same (seats_of all) i (record_of slot) (subst (λ (n : ℕ). i < n) (sym (length-map all record_of)) lt)) ∙ (ap (seat_in (set (seats_of all) i (record_of slot))) (sym e) ∙ there) in
+        subst (λ (n : ℕ). IsSlot takers' condemned'.items serials' n seat) (sym e) (here seat here')
+      | inr ne ↦ others j seat ne (sym (seat_in_other (seats_of all) i j (record_of slot) ne) ∙ there)
+    ]
+
+-- the openings after a write of a slot
+pub openings_set : (all : List Slot) (i : ℕ) (slot : Slot) → openings (seats_of (set all i slot)) ≡ set (openings (seats_of all)) i (opening_in (record_of slot))
+openings_set all i slot = ap openings (seats_of_set all i slot) ∙ map-set opening_in (seats_of all) i (record_of slot)
+
+pub openings_same :
+    (all : List Slot) (i : ℕ) (slot slot' : Slot) → slice_get all i ≡ Some slot → opening_in (record_of slot') ≡ opening_in (record_of slot)
+    → openings (seats_of (set all i slot')) ≡ openings (seats_of all)
+openings_same all i slot slot' at same =
+    let there : slice_get (openings (seats_of all)) i ≡ Some (opening_in (record_of slot)) =
+        slice_get-map opening_in (seats_of all) i ∙ ap (option_map opening_in) (slice_get-map record_of all i ∙ ap (option_map record_of) at) in
+    openings_set all i slot' ∙ (ap (set (openings (seats_of all)) i) same ∙ set_same (openings (seats_of all)) i (opening_in (record_of slot)) there)
+
+-- how many may yet be condemned, after a write of a slot
+pub live_set :
+    (all : List Slot) (i : ℕ) (slot slot' : Slot) → slice_get all i ≡ Some slot
+    → count_by is_live (seats_of (set all i slot')) + one_if (is_live (record_of slot)) ≡ count_by is_live (seats_of all) + one_if (is_live (record_of slot'))
+live_set all i slot slot' at =
+    let there : slice_get (seats_of all) i ≡ Some (record_of slot) = slice_get-map record_of all i ∙ ap (option_map record_of) at in
+    let counts = count_set is_live (seats_of all) i (record_of slot) (record_of slot') there in
+    rw (seats_of_set all i slot') counts
+
+-- a record that differs only in what is said here, and in what nothing beside the slots speaks of
+pub record IsLike (before after : Seat) : Type 0 where
+  pub conn : after.conn ≡ before.conn
+  pub condemned : after.condemned ≡ before.condemned
+
+-- What is kept where a record changes whose connection was and is not condemned alike: with openings as they then are.
+pub kept_opened :
+    {all : List Slot} {takers takers' : List ℕ} {kept kept' : Openings} {condemned : Reserved Condemnation} {table : List (List ℕ)} {serials : ℕ}
+    → IsKept all takers kept condemned table serials → (i : ℕ) (slot : Slot) (seat : Seat) → slice_get all i ≡ Some slot → slot.is_held ≡ true
+    → IsLike slot.seat seat
+    → length takers' ≡ length takers
+    → ((class j : ℕ) (other : Seat) → j ≢ i → seat_in (seats_of all) j ≡ Some other → HoldsLatch other class → slice_get takers class ≡ Some j → slice_get takers' class ≡ Some j)
+    → ((class : ℕ) → HoldsLatch seat class → slice_get takers' class ≡ Some i)
+    → AreOpenings (openings (seats_of (set all i (with_seat slot seat)))) kept'
+    → IsKept (set all i (with_seat slot seat)) takers' kept' condemned table serials
+kept_opened {all} {takers} {takers'} {kept} {kept'} {condemned} {table} {serials} k i slot seat at held like same others here opened =
+    let was : seat_in (seats_of all) i ≡ Some slot.seat = record_at all i slot at ∙ record_held slot held in
+    let facts = k.seated i slot.seat was in
+    let live = live_set all i slot (with_seat slot seat) at in
+    let alike : is_live (record_of (with_seat slot seat)) ≡ is_live (record_of slot) =
+        ap is_live (record_held (with_seat slot seat) held) ∙ (ap (λ o. is_none o) like.condemned ∙ sym (ap is_live (record_held slot held))) in
+    let fewer : count_by is_live (seats_of (set all i (with_seat slot seat))) ≤ condemned.room =
+        let ones : one_if (is_live (record_of (with_seat slot seat))) ≡ one_if (is_live (record_of slot)) = ap one_if alike in let room = k.room in omega (arith, ones, live) in
+    kept_set k i (with_seat slot seat) (slice_get_within all i slot at) same
+    (λ j other ne there.
+      let f = k.seated j other there in
+      record { place = f.place; serial = f.serial; condemned = f.condemned; latches = λ class h. others class j other ne there h (f.latches class h) })
+    (λ other there.
+      let e : seat ≡ other = let two : Some seat ≡ Some other = sym (record_held (with_seat slot seat) held) ∙ there in cc in
+      subst (λ (o : Seat). IsSlot takers' condemned.items serials i o) e
+      (record {
+        place = ap (λ (c : ConnId). c.slot) like.conn ∙ facts.place;
+        serial = subst (λ (c : ConnId). c.serial ≤ serials) (sym like.conn) facts.serial;
+        condemned = like.condemned ∙ (facts.condemned ∙ ap (condemned_in condemned.items) (sym like.conn));
+        latches = here;
+      }))
+    opened fewer k.drawn
+
+-- What is kept where a record changes in what opens no transaction and closes none.
+pub kept_seat :
+    {all : List Slot} {takers takers' : List ℕ} {kept : Openings} {condemned : Reserved Condemnation} {table : List (List ℕ)} {serials : ℕ}
+    → IsKept all takers kept condemned table serials → (i : ℕ) (slot : Slot) (seat : Seat) → slice_get all i ≡ Some slot → slot.is_held ≡ true
+    → IsLike slot.seat seat
+    → length takers' ≡ length takers
+    → ((class j : ℕ) (other : Seat) → j ≢ i → seat_in (seats_of all) j ≡ Some other → HoldsLatch other class → slice_get takers class ≡ Some j → slice_get takers' class ≡ Some j)
+    → ((class : ℕ) → HoldsLatch seat class → slice_get takers' class ≡ Some i)
+    → opening_in (Some seat) ≡ opening_in (Some slot.seat)
+    → IsKept (set all i (with_seat slot seat)) takers' kept condemned table serials
+kept_seat {all} {kept = kept} k i slot seat at held like same others here opened =
+    let e : openings (seats_of (set all i (with_seat slot seat))) ≡ openings (seats_of all) =
+        openings_same all i slot (with_seat slot seat) at
+        (ap opening_in (record_held (with_seat slot seat) held) ∙ (opened ∙ sym (ap opening_in (record_held slot held)))) in
+    kept_opened k i slot seat at held like same others here (subst (λ (o : List (Option Opening)). AreOpenings o kept) (sym e) k.openings)
+
+-- a registry's contents with a change of one record
+pub told :
+    (r now : Roll) (seats : Seats) (slot : ℕ) (change : Seat → Seat) → r ≡ now → seats ≡ changed r.seats slot change
+    → record r { seats = seats } ≡ record now { seats = changed now.seats slot change }
+told r now seats slot change same e =
+    subst (λ (n : Roll). record r { seats = seats } ≡ record n { seats = changed n.seats slot change }) same (ap (λ (s : Seats). record r { seats = s }) e)
+
+-- no latch is held where the number of latches is 0
+pub no_latch : (P : ℕ → Type 0) (class : ℕ) → bit_at 0 class ≡ 1 → P class
+no_latch P class h = let z = bit_at-zero class in absurd (omega arith)
+
+-- who holds a latch took it last
+pub latches_of :
+    {all : List Slot} {takers : List ℕ} {kept : Openings} {condemned : Reserved Condemnation} {table : List (List ℕ)} {serials : ℕ}
+    → IsKept all takers kept condemned table serials → (i : ℕ) (slot : Slot) → slice_get all i ≡ Some slot → slot.is_held ≡ true
+    → (class : ℕ) → HoldsLatch slot.seat class → slice_get takers class ≡ Some i
+latches_of {all} k i slot at held class h = (k.seated i slot.seat (record_at all i slot at ∙ record_held slot held)).latches class h
