@@ -1,9 +1,9 @@
 -- What a registry keeps, as one slot is written.
-use Rattle.std.proofs.Common.{◌≡◌, ◌≢◌, ◌<◌, ◌≤◌, ◌+◌, ◌⊎◌, ℕ, zero, suc, Bool, true, false, cond, List, [], ◌∷◌, ◌++◌, length, map, set, Option, Some, None, is_some, is_none, slice_get, option_map, option_and_then, position, MatchOption, count_by, refl, sym, ap, subst, inl, inr, ◌∙◌, arith}
+use Rattle.std.proofs.Common.{◌≡◌, ◌≢◌, ◌<◌, ◌≤◌, ◌+◌, ◌^◌, ◌⊎◌, max, ℕ, zero, suc, Bool, true, false, cond, List, [], ◌∷◌, ◌++◌, length, map, set, replicate, Option, Some, None, is_some, is_none, slice_get, option_map, option_and_then, position, MatchOption, count_by, refl, sym, ap, subst, inl, inr, ◌∙◌, arith}
 use Rattle.std.proofs.lemmas.List.{map-set, length-set, length-map}
 use Rattle.std.proofs.lemmas.Option.{slice_get_within, slice_get-map}
-use Rattle.std.proofs.lemmas.Bool.{cases_eq}
-use Rattle.std.proofs.lemmas.Nat.Bits.{bit_at-zero}
+use Rattle.std.proofs.lemmas.Bool.{cases_eq, cases_lt}
+use Rattle.std.proofs.lemmas.Nat.Bits.{bit_at-zero, bit_at-lt, bit_at_or, bit_at-pow_other, bit_at_ones_above}
 use Rattle.std.specs.Int.{bit_at}
 use Rattle.rdb_base.specs.Room.{Reserved}
 use Rattle.rdb_base.specs.declared.identity.ConnId.{ConnId}
@@ -12,10 +12,10 @@ use Rattle.rdb_registry.specs.declared.seat.Seat.{Seat}
 use Rattle.rdb_registry.specs.declared.seat.Slot.{Slot}
 use Rattle.rdb_registry.specs.declared.seat.Condemnation.{Condemnation}
 use Rattle.rdb_registry.specs.declared.transactions.Openings.{Openings}
-use Rattle.rdb_registry.specs.Seats.{Seats, slot_count, seat_in, seat_of, EachSeat, changed, Opening, openings, opening_in, opening_of, HoldsLatch, condemned_in}
+use Rattle.rdb_registry.specs.Seats.{Seats, slot_count, seat_in, seat_of, EachSeat, changed, Opening, openings, opening_in, opening_of, HoldsLatch, condemned_in, NoneHolds, NoOtherHolds, with_latch, all_latches}
 use Rattle.rdb_registry.specs.Registry.{Roll, IsRoll, IsSeated}
 use Rattle.rdb_registry.specs.Kept.{record_of, seats_of, AreOpenings, is_live, IsSlot, IsKept}
-use Rattle.rdb_registry.proofs.SlotLemmas.{at_set_same, at_set_other, set_same, one_if, count_set, HeldAt, seat_in_of, seat_in_same, seat_in_other, record_at}
+use Rattle.rdb_registry.proofs.SlotLemmas.{at_set_same, at_set_other, set_same, one_if, count_set, HeldAt, held_by, seat_in_of, seat_in_same, seat_in_other, record_at}
 
 -- the slot with another record
 abbrev pub with_seat : Slot → Seat → Slot
@@ -161,3 +161,92 @@ pub latches_of :
     → IsKept all takers kept condemned table serials → (i : ℕ) (slot : Slot) → slice_get all i ≡ Some slot → slot.is_held ≡ true
     → (class : ℕ) → HoldsLatch slot.seat class → slice_get takers class ≡ Some i
 latches_of {all} k i slot at held class h = (k.seated i slot.seat (record_at all i slot at ∙ record_held slot held)).latches class h
+
+-- what is so of a registry, by what it keeps
+pub roll_of :
+    {all : List Slot} {takers : List ℕ} {kept : Openings} {condemned : Reserved Condemnation} {table : List (List ℕ)} {serials : ℕ}
+    → IsKept all takers kept condemned table serials
+    → IsRoll (record { classes = length takers; seats = seats_of all; condemned = condemned.items; spent = table; serials = serials })
+roll_of {all} {takers} {kept} {condemned} {table} {serials} k =
+    record {
+      count = length-map all record_of ∙ k.count;
+      classes = k.classes;
+      seated = λ slot seat there.
+        let f = k.seated slot seat there in
+        record { place = f.place; serial = f.serial; condemned = f.condemned; latches = λ class h. slice_get_within takers class slot (f.latches class h) };
+      one_holder = λ class i j a b first second ha hb. one_slot i j ((sym ((k.seated i a first).latches class ha)) ∙ (k.seated j b second).latches class hb);
+      drawn = k.drawn;
+      spent = k.spent;
+      rows = k.rows;
+    }
+  where
+    one_slot : (i j : ℕ) → Some i ≡ Some j → i ≡ j
+    one_slot i j e = cc
+
+-- who took a latch last is the only one that may hold it
+pub none_holds :
+    {all : List Slot} {takers : List ℕ} {kept : Openings} {condemned : Reserved Condemnation} {table : List (List ℕ)} {serials : ℕ}
+    → IsKept all takers kept condemned table serials → (class taker : ℕ) → slice_get takers class ≡ Some taker
+    → ((seat : Seat) → seat_in (seats_of all) taker ≡ Some seat → HoldsLatch seat class → ⊥) → NoneHolds (seats_of all) class
+none_holds {all} {takers} k class taker at none slot seat there =
+    let below = bit_at-lt seat.latches class in
+    elim (cases_eq (bit_at seat.latches class) 1) [
+      | inl holds ↦
+        let same : taker ≡ slot = one_slot taker slot (sym at ∙ (k.seated slot seat there).latches class holds) in
+        absurd (none seat (ap (seat_in (seats_of all)) same ∙ there) holds)
+      | inr not ↦ omega arith
+    ]
+  where
+    one_slot : (i j : ℕ) → Some i ≡ Some j → i ≡ j
+    one_slot i j e = cc
+
+-- what the list says of a connection that is held
+pub condemned_told :
+    {all : List Slot} {takers : List ℕ} {kept : Openings} {condemned : Reserved Condemnation} {table : List (List ℕ)} {serials : ℕ}
+    → IsKept all takers kept condemned table serials → (c : ConnId) (seat : Seat) → seat_of (seats_of all) c ≡ Some seat
+    → seat.condemned ≡ condemned_in condemned.items c
+condemned_told {all} {condemned = condemned} k c seat own =
+    let h = held_by all c seat own in
+    let was : seat_in (seats_of all) c.slot ≡ Some seat = record_at all c.slot h.slot h.at ∙ (record_held h.slot h.is_held ∙ ap (λ (s : Seat). Some s) h.seat_is) in
+    (k.seated c.slot seat was).condemned ∙ ap (condemned_in condemned.items) h.conn
+
+-- the latch of a class that no other holds goes to the one in a slot
+pub latch_others :
+    (seats : Seats) (takers : List ℕ) (i class : ℕ) → NoOtherHolds seats i class
+    → (other_class j : ℕ) (other : Seat) → j ≢ i → seat_in seats j ≡ Some other → HoldsLatch other other_class → slice_get takers other_class ≡ Some j
+    → slice_get (set takers class i) other_class ≡ Some j
+latch_others seats takers i class none other_class j other ne there holds taken =
+    elim (cases_eq other_class class) [
+      | inl same ↦ let zero_bit = none j other ne there in let one : bit_at other.latches class ≡ 1 = ap (bit_at other.latches) (sym same) ∙ holds in absurd (omega arith)
+      | inr apart ↦ at_set_other takers class other_class i apart ∙ taken
+    ]
+
+pub latch_here :
+    (takers : List ℕ) (i class latches : ℕ) → class < length takers → ((k : ℕ) → bit_at latches k ≡ 1 → slice_get takers k ≡ Some i)
+    → (k : ℕ) → bit_at (with_latch latches class) k ≡ 1 → slice_get (set takers class i) k ≡ Some i
+latch_here takers i class latches lt before k holds =
+    elim (cases_eq k class) [
+      | inl same ↦ ap (slice_get (set takers class i)) same ∙ at_set_same takers class i lt
+      | inr apart ↦
+        let both : bit_at (with_latch latches class) k ≡ max (bit_at latches k) (bit_at (2 ^ class) k) = bit_at_or latches (2 ^ class) k in
+        let none : bit_at (2 ^ class) k ≡ 0 = bit_at-pow_other class k apart in
+        let one : bit_at latches k ≡ 1 = omega arith in
+        at_set_other takers class k i apart ∙ before k one
+    ]
+
+-- all latches, where no other holds any
+pub all_others :
+    (seats : Seats) (takers : List ℕ) (i : ℕ) → ((class : ℕ) → NoOtherHolds seats i class)
+    → (class j : ℕ) (other : Seat) → j ≢ i → seat_in seats j ≡ Some other → HoldsLatch other class → slice_get takers class ≡ Some j
+all_others seats takers i none class j other ne there holds = let zero_bit = none class j other ne there in absurd (omega arith)
+
+pub all_here : (classes i class : ℕ) → bit_at (all_latches classes) class ≡ 1 → slice_get (replicate classes i) class ≡ Some i
+all_here classes i class holds = elim (cases_lt class classes) [
+  | inl lt ↦ filled classes class i lt
+  | inr ge ↦ let none = bit_at_ones_above classes class ge in absurd (omega arith)
+]
+  where
+    filled : (n k x : ℕ) → k < n → slice_get (replicate n x) k ≡ Some x
+    filled zero k x lt = absurd (omega arith)
+    filled (suc n) zero x lt = refl
+    filled (suc n) (suc k) x lt = filled n k x (omega arith)

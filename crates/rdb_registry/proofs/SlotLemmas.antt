@@ -1,5 +1,5 @@
 -- Slots and records, as one of them is written.
-use Rattle.std.proofs.Common.{◌≡◌, ◌≢◌, ◌<◌, ◌≤◌, ◌+◌, ◌⊎◌, ℕ, zero, suc, Bool, true, false, cond, not, nat_lt, ◌&&◌, ◌==◌, List, [], ◌∷◌, length, map, get_or, set, replicate, position, Option, Some, None, is_none, IsSome, IsSomeAnd, slice_get, sum_by, refl, sym, ap, subst, ◌∙◌, arith, eqb-true}
+use Rattle.std.proofs.Common.{◌≡◌, ◌≢◌, ◌<◌, ◌≤◌, ◌+◌, ◌⊎◌, ℕ, zero, suc, Bool, true, false, cond, not, nat_lt, ◌&&◌, ◌==◌, List, [], ◌∷◌, length, map, get_or, set, replicate, position, Option, Some, None, is_none, IsSome, IsSomeAnd, slice_get, sum_by, refl, sym, ap, subst, ◌∙◌, arith, eqb-true, eq-eqb}
 use Rattle.std.specs.List.{count_by, position_or_len}
 use Rattle.std.specs.Option.{option_map, option_and_then}
 use Rattle.std.proofs.lemmas.List.{map-set, length-map}
@@ -73,6 +73,10 @@ some_of (Some x) h = (x, refl)
 pub some_and_of : {X : Type 0} (P : X → Type 0) (o : Option X) → IsSomeAnd o P → (x : X) × ((o ≡ Some x) × P x)
 some_and_of P None h = absurd h
 some_and_of P (Some x) h = (x, (refl, h))
+
+pub is_some_from : {X : Type 0} (P : X → Type 0) (o : Option X) → IsSomeAnd o P → IsSome o
+is_some_from P None h = absurd h
+is_some_from P (Some x) h = refl
 
 cond_some : {X : Type 0} (b : Bool) (x y : X) → cond b (Some x) None ≡ Some y → (b ≡ true) × (x ≡ y)
 cond_some true x y e = (refl, cc)
@@ -157,7 +161,7 @@ pub position_of_openings :
     (p : Option Opening → Bool) (q : Slot → Bool) → ((slot : Slot) → q slot ≡ p (opening_in (record_of slot))) → (all : List Slot)
     → position q all ≡ position p (openings (seats_of all))
 position_of_openings p q same all =
-    position_by (λ record. p (opening_in record)) record_of q same all ∙ position_by p opening_in (λ record. p (opening_in record)) (λ record. refl) (seats_of all)
+    position_by (λ seat. p (opening_in seat)) record_of q same all ∙ position_by p opening_in (λ seat. p (opening_in seat)) (λ seat. refl) (seats_of all)
 
 -- whether a slot is free
 pub free_is : (slot : Slot) → not slot.is_held ≡ is_none (record_of slot)
@@ -166,3 +170,15 @@ free_is slot = go slot.is_held
     go : (b : Bool) → not b ≡ is_none (cond b (Some slot.seat) None)
     go true = refl
     go false = refl
+
+-- a record is that of the connection that it names
+pub own_seat : (seats : Seats) (slot : ℕ) (seat : Seat) → seat_in seats slot ≡ Some seat → seat.conn.slot ≡ slot → seat_of seats seat.conn ≡ Some seat
+own_seat seats slot seat there place =
+    let at : seat_in seats seat.conn.slot ≡ Some seat = ap (seat_in seats) place ∙ there in
+    ap (option_and_then (if_conn seat.conn)) at ∙ itself
+  where
+    itself : if_conn seat.conn seat ≡ Some seat
+    itself =
+        let first : (seat.conn.slot == seat.conn.slot) ≡ true = eq-eqb _ _ refl in
+        let second : (seat.conn.serial == seat.conn.serial) ≡ true = eq-eqb _ _ refl in
+        λ i. cond (first i && second i) (Some seat) None

@@ -26,8 +26,8 @@ impl Registry {
         requires free { NoOtherHolds self.old.seats c.slot class }
         ensures { self.new ≡ record self.old { seats = changed self.old.seats c.slot (add_latch class) } }
     {
-        self.slots[c.slot as usize].seat.latches |= 1 << class;
         self.takers[class as usize] = c.slot;
+        self.slots[c.slot as usize].seat.latches |= 1 << class;
     }
 
     /// Takes the latch of every class for a connection, where no other holds any. The cost grows with the number of classes.
@@ -37,9 +37,7 @@ impl Registry {
         ensures { self.new ≡ record self.old { seats = changed self.old.seats c.slot (with_latches (all_latches self.old.classes)) } }
     {
         self.slots[c.slot as usize].seat.latches = all_latches(self.takers.len() as u32);
-        for taker in &mut self.takers {
-            *taker = c.slot;
-        }
+        self.takers.fill(c.slot);
     }
 
     /// Gives up all latches of a connection. The cost is constant.

@@ -2,7 +2,7 @@
 //! kept of them.
 
 ghost use Rattle.std.specs.Prelude.{◌≡◌, ◌+◌, ◌^◌, ◌<◌, ℕ, position, is_some, length, None, IsSome, IfSome, IfNone, IsSomeAnd, MatchOption, option_map};
-ghost use Rattle.rdb_registry.specs.Seats.{slot_count, seat_of, changed, transaction_in, opening_of, opening_in, openings, is_writer, lower, NoneOpen, IsLeastSnapshot, HasUnmarked, mark_of, with_begun, with_mark, without_transaction};
+ghost use Rattle.rdb_registry.specs.Seats.{slot_count, seat_of, changed, transaction_in, opening_of, opening_in, openings, is_writer, lower, NoneOpen, IsLeastSnapshot, HasUnmarked, mark_of, marked, with_begun, with_mark, without_transaction};
 ghost use Rattle.rdb_registry.specs.Kept.{record_of, seats_of, AreOpenings};
 
 use crate::registry::Registry;
@@ -120,6 +120,17 @@ fn lower(least: Option<u64>, transaction: Option<Transaction>) -> Option<u64>
     }
 }
 
+// A transaction with its mark, if there is a transaction.
+fn marked(transaction: Option<Transaction>, commit: u64) -> Option<Transaction>
+    ensures { result ≡ option_map (marked commit) transaction }
+{
+    let transaction = transaction?;
+    Some(Transaction {
+        mark: Some(commit),
+        ..transaction
+    })
+}
+
 impl Registry {
     /// Opens a transaction of a connection: its number is one more than those that the connection began. The cost is a walk over the slots.
     pub fn begin(&mut self, c: ConnId, kind: Kind, begun: u64, snapshot: u64)
@@ -146,9 +157,7 @@ impl Registry {
         ensures { self.new ≡ record self.old { seats = changed self.old.seats c.slot (with_mark commit) } }
     {
         let seat = &mut self.slots[c.slot as usize].seat;
-        if let Some(transaction) = &mut seat.transaction {
-            transaction.mark = Some(commit);
-        }
+        seat.transaction = marked(seat.transaction, commit);
     }
 
     /// Closes a connection's open transaction; its snapshot and its mark are gone. The cost is a walk over the slots.
