@@ -250,3 +250,13 @@ all_here classes i class holds = elim (cases_lt class classes) [
     filled zero k x lt = absurd (omega arith)
     filled (suc n) zero x lt = refl
     filled (suc n) (suc k) x lt = filled n k x (omega arith)
+
+-- a registry's contents, part by part
+pub roll_is :
+    (r : Roll) (classes : ℕ) (seats : Seats) → classes ≡ r.classes → (seats' : Seats) → seats ≡ seats'
+    → record r { classes = classes; seats = seats } ≡ record r { seats = seats' }
+roll_is r classes seats same seats' e = λ i. record r { classes = same i; seats = e i }
+
+-- what became of a registry's contents, by what they were
+pub told_by : (r now new : Roll) (F : Roll → Roll) → r ≡ now → new ≡ F r → new ≡ F now
+told_by r now new F same e = e ∙ ap F same
