@@ -1,8 +1,10 @@
 -- What a registry keeps, as one slot is written.
-use Rattle.std.proofs.Common.{◌≡◌, ◌≢◌, ◌<◌, ◌≤◌, ◌+◌, ◌^◌, ◌⊎◌, max, ℕ, zero, suc, Bool, true, false, cond, List, [], ◌∷◌, ◌++◌, length, map, set, replicate, Option, Some, None, is_some, is_none, slice_get, option_map, option_and_then, position, MatchOption, count_by, refl, sym, ap, subst, inl, inr, ◌∙◌, arith}
+use Rattle.std.proofs.Common.{◌≡◌, ◌≢◌, ◌<◌, ◌≤◌, ◌+◌, ◌^◌, ◌⊎◌, max, ℕ, zero, suc, Bool, true, false, cond, List, [], ◌∷◌, ◌++◌, length, map, set, replicate, Option, Some, None, is_some, is_none, slice_get, option_map, option_and_then, position, MatchOption, count_by, find, ◌&&◌, ◌==◌, ne_eqb, refl, sym, ap, subst, inl, inr, ◌∙◌, arith}
 use Rattle.std.proofs.lemmas.List.{map-set, length-set, length-map}
 use Rattle.std.proofs.lemmas.Option.{slice_get_within, slice_get-map}
 use Rattle.std.proofs.lemmas.Bool.{cases_eq, cases_lt}
+use Rattle.std.proofs.lemmas.Bool.{and_right}
+use Rattle.std.proofs.lemmas.List.Sums.{count_by-le-length}
 use Rattle.std.proofs.lemmas.Nat.Bits.{bit_at-zero, bit_at-lt, bit_at_or, bit_at-pow_other, bit_at_ones_above}
 use Rattle.std.specs.Int.{bit_at}
 use Rattle.rdb_base.specs.Room.{Reserved}
@@ -12,7 +14,7 @@ use Rattle.rdb_registry.specs.declared.seat.Seat.{Seat}
 use Rattle.rdb_registry.specs.declared.seat.Slot.{Slot}
 use Rattle.rdb_registry.specs.declared.seat.Condemnation.{Condemnation}
 use Rattle.rdb_registry.specs.declared.transactions.Openings.{Openings}
-use Rattle.rdb_registry.specs.Seats.{Seats, slot_count, seat_in, seat_of, EachSeat, changed, Opening, openings, opening_in, opening_of, HoldsLatch, condemned_in, NoneHolds, NoOtherHolds, with_latch, all_latches}
+use Rattle.rdb_registry.specs.Seats.{Seats, slot_count, seat_in, seat_of, EachSeat, changed, Opening, openings, opening_in, opening_of, HoldsLatch, condemned_in, is_of, IsNew, NoneHolds, NoOtherHolds, with_latch, all_latches}
 use Rattle.rdb_registry.specs.Registry.{Roll, IsRoll, IsSeated}
 use Rattle.rdb_registry.specs.Kept.{record_of, seats_of, AreOpenings, is_live, IsSlot, IsKept}
 use Rattle.rdb_registry.proofs.SlotLemmas.{at_set_same, at_set_other, set_same, one_if, count_set, HeldAt, held_by, seat_in_of, seat_in_same, seat_in_other, record_at}
@@ -260,3 +262,96 @@ roll_is r classes seats same seats' e = λ i. record r { classes = same i; seats
 -- what became of a registry's contents, by what they were
 pub told_by : (r now new : Roll) (F : Roll → Roll) → r ≡ now → new ≡ F r → new ≡ F now
 told_by r now new F same e = e ∙ ap F same
+
+-- what is kept rests on the records that the slots have, and on how many there are
+pub kept_same :
+    {all all' : List Slot} {takers : List ℕ} {kept : Openings} {condemned condemned' : Reserved Condemnation} {table : List (List ℕ)} {serials : ℕ}
+    → IsKept all takers kept condemned table serials → seats_of all' ≡ seats_of all → length all' ≡ length all
+    → condemned'.items ≡ condemned.items → condemned.room ≤ condemned'.room
+    → IsKept all' takers kept condemned' table serials
+kept_same {all} {all'} {takers} {kept} {condemned} {condemned'} {table} {serials} k seats count items room =
+    let live : count_by is_live (seats_of all') ≡ count_by is_live (seats_of all) = ap (count_by is_live) seats in
+    let enough = k.room in
+    record {
+      count = count ∙ k.count;
+      classes = k.classes;
+      seated = λ slot seat there.
+        subst (λ (list : List Condemnation). IsSlot takers list serials slot seat) (sym items) (k.seated slot seat (ap (λ (s : Seats). seat_in s slot) (sym seats) ∙ there));
+      openings = subst (λ (s : Seats). AreOpenings (openings s) kept) (sym seats) k.openings;
+      room = omega arith;
+      drawn = λ place entry there. k.drawn place entry (ap (λ (list : List Condemnation). slice_get list place) (sym items) ∙ there);
+      spent = k.spent;
+      rows = k.rows;
+    }
+
+-- a slot that is freed has no record
+pub record_free : (slot : Slot) → slot.is_held ≡ false → record_of slot ≡ None
+record_free slot free = ap (λ b. cond b (Some slot.seat) None) free
+
+-- a slot that was free and stays so leaves the records as they were
+pub still_free : (all : List Slot) (i : ℕ) (slot slot' : Slot) → slice_get all i ≡ Some slot → slot.is_held ≡ false → slot'.is_held ≡ false → seats_of (set all i slot') ≡ seats_of all
+still_free all i slot slot' at free free' =
+    let none : record_of slot ≡ None = record_free slot free in
+    let there : slice_get (seats_of all) i ≡ Some None = slice_get-map record_of all i ∙ (ap (option_map record_of) at ∙ ap (λ o. Some o) none) in
+    seats_of_set all i slot' ∙ (ap (set (seats_of all) i) (record_free slot' free') ∙ set_same (seats_of all) i None there)
+
+-- what is kept where a slot is freed
+pub kept_freed :
+    {all : List Slot} {takers : List ℕ} {kept kept' : Openings} {condemned : Reserved Condemnation} {table : List (List ℕ)} {serials : ℕ}
+    → IsKept all takers kept condemned table serials → (i : ℕ) (slot slot' : Slot) → slice_get all i ≡ Some slot → slot'.is_held ≡ false
+    → AreOpenings (openings (seats_of (set all i slot'))) kept'
+    → IsKept (set all i slot') takers kept' condemned table serials
+kept_freed {all} {takers} {kept} {kept'} {condemned} {table} {serials} k i slot slot' at free opened =
+    let live = live_set all i slot slot' at in
+    let gone : one_if (is_live (record_of slot')) ≡ 0 = ap (λ o. one_if (is_live o)) (record_free slot' free) in
+    let enough = k.room in
+    kept_set k i slot' (slice_get_within all i slot at) refl
+    (λ j seat ne there. k.seated j seat there)
+    (λ seat there. none_some seat (sym (record_free slot' free) ∙ there))
+    opened (omega (arith, live, gone, enough)) k.drawn
+  where
+    none_some : {P : Type 0} (seat : Seat) → None ≡ Some seat → P
+    none_some seat e = absurd cc
+
+-- no entry of the list is of a connection whose serial is above those that were drawn
+pub not_condemned :
+    (list : List Condemnation) (c : ConnId) (serials : ℕ) → ((place : ℕ) (entry : Condemnation) → slice_get list place ≡ Some entry → entry.conn.serial ≤ serials)
+    → serials < c.serial → condemned_in list c ≡ None
+not_condemned [] c serials drawn above = refl
+not_condemned (entry ∷ rest) c serials drawn above =
+    let first = drawn 0 entry refl in
+    let other : (entry.conn.serial == c.serial) ≡ false = ne_eqb _ _ (λ e. absurd (omega (arith, e))) in
+    let test : is_of c entry ≡ false = and_right (entry.conn.slot == c.slot) (entry.conn.serial == c.serial) other in
+    ap (λ b. option_map (λ (e : Condemnation). e.condemned) (cond b (Some entry) (find (is_of c) rest))) test
+    ∙ not_condemned rest c serials (λ place e there. drawn (suc place) e there) above
+
+-- what is kept where a free slot goes to a connection with a new record
+pub kept_connected :
+    {all : List Slot} {takers : List ℕ} {kept : Openings} {condemned : Reserved Condemnation} {table : List (List ℕ)} {serials : ℕ}
+    → IsKept all takers kept condemned table serials → (i : ℕ) (slot slot' : Slot) (c : ConnId) → slice_get all i ≡ Some slot → slot.is_held ≡ false
+    → slot'.is_held ≡ true → IsNew c slot'.seat → c.slot ≡ i → c.serial ≡ serials + 1 → slot_count ≤ condemned.room
+    → IsKept (set all i slot') takers kept condemned table (serials + 1)
+kept_connected {all} {takers} {kept} {condemned} {table} {serials} k i slot slot' c at free held new place serial room =
+    let record' : record_of slot' ≡ Some slot'.seat = record_held slot' held in
+    let same : opening_in (record_of slot') ≡ opening_in (record_of slot) =
+        ap opening_in record' ∙ (ap (option_map opening_of) new.transaction ∙ sym (ap opening_in (record_free slot free))) in
+    let count = k.count in
+    let count' = length-set all i slot' in
+    let records : length (seats_of (set all i slot')) ≡ length (set all i slot') = length-map (set all i slot') record_of in
+    let live = count_by-le-length is_live (seats_of (set all i slot')) in
+    kept_set k i slot' (slice_get_within all i slot at) refl
+    (λ j seat ne there.
+      let f = k.seated j seat there in
+      record { place = f.place; serial = (let le = f.serial in omega arith); condemned = f.condemned; latches = f.latches })
+    (λ seat there.
+      let e : slot'.seat ≡ seat = let two : Some slot'.seat ≡ Some seat = sym record' ∙ there in cc in
+      subst (λ (s : Seat). IsSlot takers condemned.items (serials + 1) i s) e
+      (record {
+        place = ap (λ (n : ConnId). n.slot) new.conn ∙ place;
+        serial = (let n = ap (λ (n : ConnId). n.serial) new.conn in omega arith);
+        condemned = new.condemned ∙ (sym (not_condemned condemned.items c serials k.drawn (omega arith)) ∙ ap (condemned_in condemned.items) (sym new.conn));
+        latches = λ class holds. no_latch _ class (ap (λ n. bit_at n class) (sym new.latches) ∙ holds);
+      }))
+    (subst (λ (o : List (Option Opening)). AreOpenings o kept) (sym (openings_same all i slot slot' at same)) k.openings)
+    (omega (arith, live, records, count, count', room))
+    (λ p entry there. let le = k.drawn p entry there in omega arith)

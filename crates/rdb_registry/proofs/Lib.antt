@@ -1,3 +1,4 @@
 pub mod SlotLemmas
 pub mod KeptLemmas
 pub mod OpeningLemmas
+pub mod SpentLemmas

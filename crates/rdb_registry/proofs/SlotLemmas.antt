@@ -182,3 +182,12 @@ own_seat seats slot seat there place =
         let first : (seat.conn.slot == seat.conn.slot) ≡ true = eq-eqb _ _ refl in
         let second : (seat.conn.serial == seat.conn.serial) ≡ true = eq-eqb _ _ refl in
         λ i. cond (first i && second i) (Some seat) None
+
+-- the first place at which a test holds is one where it holds
+prefix_passes : {X : Type 0} (p : X → Bool) (xs : List X) → position_or_len p xs < length xs → (x : X) × ((slice_get xs (position_or_len p xs) ≡ Some x) × (p x ≡ true))
+prefix_passes p [] lt = absurd (omega arith)
+prefix_passes p (x ∷ xs) lt = go (p x) refl
+  where
+    go : (b : Bool) → p x ≡ b → (y : _) × ((slice_get (x ∷ xs) (position_or_len p (x ∷ xs)) ≡ Some y) × (p y ≡ true))
+    go true is = (x, (ap (λ c. slice_get (x ∷ xs) (cond (not c) (1 + position_or_len p xs) 0)) is, is))
+    go false is = ?
