@@ -1,9 +1,9 @@
 -- What a registry keeps, as one slot is written.
-use Rattle.std.proofs.Common.{◌≡◌, ◌≢◌, ◌<◌, ◌≤◌, ◌+◌, ◌^◌, ◌⊎◌, max, ℕ, zero, suc, Bool, true, false, cond, List, [], ◌∷◌, ◌++◌, length, map, set, replicate, Option, Some, None, is_some, is_none, slice_get, option_map, option_and_then, position, MatchOption, count_by, find, ◌&&◌, ◌==◌, ne_eqb, refl, sym, ap, subst, inl, inr, ◌∙◌, arith}
+use Rattle.std.proofs.Common.{◌≡◌, ◌≢◌, ◌<◌, ◌≤◌, ◌+◌, ◌^◌, ◌⊎◌, max, ℕ, zero, suc, Bool, true, false, cond, List, [], ◌∷◌, ◌++◌, length, map, set, replicate, Result, Ok, Err, OnErr, Option, Some, None, is_some, is_none, slice_get, option_map, option_and_then, position, MatchOption, count_by, find, ◌&&◌, ◌==◌, ne_eqb, eq-eqb, ◌-◌, refl, sym, ap, subst, inl, inr, ◌∙◌, arith}
 use Rattle.std.proofs.lemmas.List.{map-set, length-set, length-map}
 use Rattle.std.proofs.lemmas.Option.{slice_get_within, slice_get-map}
 use Rattle.std.proofs.lemmas.Bool.{cases_eq, cases_lt}
-use Rattle.std.proofs.lemmas.Bool.{and_right}
+use Rattle.std.proofs.lemmas.Bool.{and_left, and_right}
 use Rattle.std.proofs.lemmas.List.Sums.{count_by-le-length}
 use Rattle.std.proofs.lemmas.Nat.Bits.{bit_at-zero, bit_at-lt, bit_at_or, bit_at-pow_other, bit_at_ones_above}
 use Rattle.std.specs.Int.{bit_at}
@@ -12,9 +12,10 @@ use Rattle.rdb_base.specs.declared.identity.ConnId.{ConnId}
 use Rattle.rdb_registry.specs.declared.hand.Hand.{Hand}
 use Rattle.rdb_registry.specs.declared.seat.Seat.{Seat}
 use Rattle.rdb_registry.specs.declared.seat.Slot.{Slot}
+use Rattle.rdb_registry.specs.declared.seat.Condemned.{Condemned}
 use Rattle.rdb_registry.specs.declared.seat.Condemnation.{Condemnation}
 use Rattle.rdb_registry.specs.declared.transactions.Openings.{Openings}
-use Rattle.rdb_registry.specs.Seats.{Seats, slot_count, seat_in, seat_of, EachSeat, changed, Opening, openings, opening_in, opening_of, HoldsLatch, condemned_in, is_of, IsNew, NoneHolds, NoOtherHolds, with_latch, all_latches}
+use Rattle.rdb_registry.specs.Seats.{Seats, slot_count, seat_in, seat_of, EachSeat, changed, Opening, openings, opening_in, opening_of, HoldsLatch, condemned_in, with_condemned, is_of, IsNew, NoneHolds, NoOtherHolds, with_latch, all_latches}
 use Rattle.rdb_registry.specs.Registry.{Roll, IsRoll, IsSeated}
 use Rattle.rdb_registry.specs.Kept.{record_of, seats_of, AreOpenings, is_live, IsSlot, IsKept}
 use Rattle.rdb_registry.proofs.SlotLemmas.{at_set_same, at_set_other, set_same, one_if, count_set, HeldAt, held_by, seat_in_of, seat_in_same, seat_in_other, record_at}
@@ -350,8 +351,97 @@ kept_connected {all} {takers} {kept} {condemned} {table} {serials} k i slot slot
         place = ap (λ (n : ConnId). n.slot) new.conn ∙ place;
         serial = (let n = ap (λ (n : ConnId). n.serial) new.conn in omega arith);
         condemned = new.condemned ∙ (sym (not_condemned condemned.items c serials k.drawn (omega arith)) ∙ ap (condemned_in condemned.items) (sym new.conn));
-        latches = λ class holds. no_latch _ class (ap (λ n. bit_at n class) (sym new.latches) ∙ holds);
+        latches = λ class holds. no_latch (λ k. slice_get takers k ≡ Some i) class (ap (λ n. bit_at n class) (sym new.latches) ∙ holds);
       }))
     (subst (λ (o : List (Option Opening)). AreOpenings o kept) (sym (openings_same all i slot slot' at same)) k.openings)
     (omega (arith, live, records, count, count', room))
     (λ p entry there. let le = k.drawn p entry there in omega arith)
+
+-- an entry more says nothing of other connections
+pub others_condemned : (list : List Condemnation) (entry : Condemnation) (c : ConnId) → c.slot ≢ entry.conn.slot → condemned_in (list ++ entry ∷ []) c ≡ condemned_in list c
+others_condemned [] entry c ne =
+    let other : (entry.conn.slot == c.slot) ≡ false = ne_eqb _ _ (λ e. ne (sym e)) in
+    let test : is_of c entry ≡ false = and_left (entry.conn.slot == c.slot) (entry.conn.serial == c.serial) other in
+    ap (λ b. option_map (λ (e : Condemnation). e.condemned) (cond b (Some entry) None)) test
+others_condemned (first ∷ rest) entry c ne = go (is_of c first) (others_condemned rest entry c ne)
+  where
+    go : (b : Bool) → condemned_in (rest ++ entry ∷ []) c ≡ condemned_in rest c
+        → option_map (λ (e : Condemnation). e.condemned) (cond b (Some first) (find (is_of c) (rest ++ entry ∷ [])))
+        ≡ option_map (λ (e : Condemnation). e.condemned) (cond b (Some first) (find (is_of c) rest))
+    go true e = refl
+    go false e = e
+
+-- and it says of its own, where no earlier one did
+pub now_condemned : (list : List Condemnation) (entry : Condemnation) (c : ConnId) → entry.conn ≡ c → None ≡ condemned_in list c → condemned_in (list ++ entry ∷ []) c ≡ Some entry.condemned
+now_condemned [] entry c same none =
+    let first : (entry.conn.slot == c.slot) ≡ true = eq-eqb _ _ (ap (λ (n : ConnId). n.slot) same) in
+    let second : (entry.conn.serial == c.serial) ≡ true = eq-eqb _ _ (ap (λ (n : ConnId). n.serial) same) in
+    λ i. option_map (λ (e : Condemnation). e.condemned) (cond (first i && second i) (Some entry) None)
+now_condemned (other ∷ rest) entry c same none = go (is_of c other) (now_condemned rest entry c same) none
+  where
+    go : (b : Bool) → (None ≡ condemned_in rest c → condemned_in (rest ++ entry ∷ []) c ≡ Some entry.condemned) → None ≡ option_map (λ (e : Condemnation). e.condemned) (cond b (Some other) (find (is_of c) rest))
+        → option_map (λ (e : Condemnation). e.condemned) (cond b (Some other) (find (is_of c) (rest ++ entry ∷ []))) ≡ Some entry.condemned
+    go true later e = let no : None ≡ Some other.condemned = e in absurd cc
+    go false later e = later e
+
+-- the entries of a list with one more
+in_longer : {P : Condemnation → Type 0} (list : List Condemnation) (entry : Condemnation) → ((place : ℕ) (e : Condemnation) → slice_get list place ≡ Some e → P e) → P entry
+    → (place : ℕ) (e : Condemnation) → slice_get (list ++ entry ∷ []) place ≡ Some e → P e
+in_longer {P} [] entry each mine zero e there = let same : Some entry ≡ Some e = there in let one : entry ≡ e = cc in subst P one mine
+in_longer [] entry each mine (suc place) e there = let no : None ≡ Some e = there in absurd cc
+in_longer {P} (first ∷ rest) entry each mine zero e there = each 0 e there
+in_longer {P} (first ∷ rest) entry each mine (suc place) e there = in_longer {P = P} rest entry (λ p x t. each (suc p) x t) mine place e there
+
+-- whether the record of a slot that is held may be condemned
+live_is : (slot : Slot) → slot.is_held ≡ true → is_live (record_of slot) ≡ is_none slot.seat.condemned
+live_is slot held = ap is_live (record_held slot held)
+
+-- there is room to condemn one that wasn't
+pub room_to_condemn :
+    {all : List Slot} {takers : List ℕ} {kept : Openings} {condemned : Reserved Condemnation} {table : List (List ℕ)} {serials : ℕ}
+    → IsKept all takers kept condemned table serials → (i : ℕ) (slot : Slot) → slice_get all i ≡ Some slot → slot.is_held ≡ true → slot.seat.condemned ≡ None
+    → 0 < condemned.room
+room_to_condemn {all} k i slot at held none =
+    let free : Slot = record slot { is_held = false } in
+    let counts = live_set all i slot free at in
+    let one : one_if (is_live (record_of slot)) ≡ 1 = ap one_if (live_is slot held ∙ ap is_none none) in
+    let room = k.room in
+    omega (arith, counts, one, room)
+
+-- what is kept where a connection is condemned
+pub kept_condemned :
+    {all : List Slot} {takers : List ℕ} {kept : Openings} {condemned : Reserved Condemnation} {table : List (List ℕ)} {serials : ℕ}
+    → IsKept all takers kept condemned table serials → (i : ℕ) (slot : Slot) (entry : Condemnation) → slice_get all i ≡ Some slot → slot.is_held ≡ true
+    → slot.seat.condemned ≡ None → slot.seat.conn ≡ entry.conn → entry.conn.slot ≡ i
+    → IsKept (set all i (with_seat slot (with_condemned entry.condemned slot.seat))) takers kept (record { items = condemned.items ++ entry ∷ []; room = condemned.room - 1 }) table serials
+kept_condemned {all} {takers} {kept} {condemned} {table} {serials} k i slot entry at held none conn place =
+    let was : seat_in (seats_of all) i ≡ Some slot.seat = record_at all i slot at ∙ record_held slot held in
+    let facts = k.seated i slot.seat was in
+    let after = with_seat slot (with_condemned entry.condemned slot.seat) in
+    let live = live_set all i slot after at in
+    let before_one : one_if (is_live (record_of slot)) ≡ 1 = ap one_if (live_is slot held ∙ ap is_none none) in
+    let after_none : one_if (is_live (record_of after)) ≡ 0 = ap one_if (live_is after held) in
+    let room = k.room in
+    let mine : entry.conn.serial ≤ serials = subst (λ (c : ConnId). c.serial ≤ serials) conn facts.serial in
+    kept_set k i after (slice_get_within all i slot at) refl
+    (λ j seat ne there.
+      let f = k.seated j seat there in
+      let apart : seat.conn.slot ≢ entry.conn.slot = λ e. ne (sym f.place ∙ (e ∙ place)) in
+      record { place = f.place; serial = f.serial; condemned = f.condemned ∙ sym (others_condemned condemned.items entry seat.conn apart); latches = f.latches })
+    (λ seat there.
+      let e : after.seat ≡ seat = let two : Some after.seat ≡ Some seat = sym (record_held after held) ∙ there in cc in
+      subst (λ (s : Seat). IsSlot takers (condemned.items ++ entry ∷ []) serials i s) e
+      (record {
+        place = facts.place;
+        serial = facts.serial;
+        condemned = sym (now_condemned condemned.items entry slot.seat.conn (sym conn) (sym none ∙ facts.condemned));
+        latches = facts.latches;
+      }))
+    (subst (λ (o : List (Option Opening)). AreOpenings o kept) (sym (openings_same all i slot after at (ap opening_in (record_held after held) ∙ sym (ap opening_in (record_held slot held))))) k.openings)
+    (omega (arith, live, before_one, after_none, room))
+    (in_longer {P = λ e. e.conn.serial ≤ serials} condemned.items entry k.drawn mine)
+
+-- a fact that holds whatever a call answers
+pub on_err : {T E : Type 0} (r : Result T E) (P : Type 0) → P → OnErr r P
+on_err (Ok x) P p = tt
+on_err (Err e) P p = p

@@ -2,3 +2,4 @@ pub mod SlotLemmas
 pub mod KeptLemmas
 pub mod OpeningLemmas
 pub mod SpentLemmas
+pub mod OwnLemmas

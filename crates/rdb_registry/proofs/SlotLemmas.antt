@@ -3,7 +3,8 @@ use Rattle.std.proofs.Common.{◌≡◌, ◌≢◌, ◌<◌, ◌≤◌, ◌+◌,
 use Rattle.std.specs.List.{count_by, position_or_len}
 use Rattle.std.specs.Option.{option_map, option_and_then}
 use Rattle.std.proofs.lemmas.List.{map-set, length-map}
-use Rattle.std.proofs.lemmas.Option.{slice_get_within, slice_get-map, get_or_from_slice_get}
+use Rattle.std.proofs.lemmas.Option.{slice_get_within, slice_get_read, slice_get-map, get_or_from_slice_get}
+use Rattle.std.proofs.lemmas.List.Quantifiers.{position-Some}
 use Rattle.std.proofs.lemmas.List.Sums.{sum_by-set}
 use Rattle.std.proofs.lemmas.Bool.{false≢true}
 use Rattle.rdb_base.specs.declared.identity.ConnId.{ConnId}
@@ -183,11 +184,16 @@ own_seat seats slot seat there place =
         let second : (seat.conn.serial == seat.conn.serial) ≡ true = eq-eqb _ _ refl in
         λ i. cond (first i && second i) (Some seat) None
 
--- the first place at which a test holds is one where it holds
-prefix_passes : {X : Type 0} (p : X → Bool) (xs : List X) → position_or_len p xs < length xs → (x : X) × ((slice_get xs (position_or_len p xs) ≡ Some x) × (p x ≡ true))
-prefix_passes p [] lt = absurd (omega arith)
-prefix_passes p (x ∷ xs) lt = go (p x) refl
+-- the lowest slot without a record is free
+pub lowest_is_free : (all : List Slot) (i : ℕ) (slot : Slot) → position is_none (seats_of all) ≡ Some i → slot ≡ get_or all i slot → slice_get all i ≡ Some slot × (slot.is_held ≡ false)
+lowest_is_free all i slot first e =
+    let facts = position-Some is_none (seats_of all) i None first in
+    let lengths = length-map all record_of in
+    let at : slice_get all i ≡ Some slot = slice_get_read all _ i slot refl (omega (arith, facts.0, lengths)) e in
+    let there : slice_get (seats_of all) i ≡ Some (record_of slot) = slice_get-map record_of all i ∙ ap (option_map record_of) at in
+    let none : is_none (record_of slot) ≡ true = ap is_none (sym (get_or_from_slice_get (seats_of all) i (record_of slot) None there)) ∙ facts.1 in
+    (at, not_held slot.is_held (free_is slot ∙ none))
   where
-    go : (b : Bool) → p x ≡ b → (y : _) × ((slice_get (x ∷ xs) (position_or_len p (x ∷ xs)) ≡ Some y) × (p y ≡ true))
-    go true is = (x, (ap (λ c. slice_get (x ∷ xs) (cond (not c) (1 + position_or_len p xs) 0)) is, is))
-    go false is = ?
+    not_held : (b : Bool) → not b ≡ true → b ≡ false
+    not_held true e = absurd cc
+    not_held false e = refl

@@ -1,5 +1,5 @@
 -- The objects that a transaction wrote.
-use Rattle.std.specs.Prelude.{◌≡◌, ◌==◌, ◌&&◌, ◌||◌, nat_lt, ℕ, Bool, true, false, List, [], ◌∷◌, Option, Some, None, find, if◌then◌else◌}
+use Rattle.std.specs.Prelude.{◌≡◌, ◌+◌, ◌≤◌, ◌==◌, ◌&&◌, ◌||◌, nat_lt, ℕ, Bool, true, false, List, [], ◌∷◌, length, take, drop, slice_get, Option, Some, None, find}
 use Rattle.std.specs.Option.{option_map}
 use Rattle.rdb_pages.specs.declared.cell.CellRef.{CellRef}
 use Rattle.rdb_registry.specs.declared.own_writes.OwnWrite.{OwnWrite}
@@ -12,18 +12,22 @@ is_of object write = (write.class == object.0) && (write.id == object.1)
 abbrev pub header_of : List OwnWrite → ℕ × ℕ → Option CellRef
 header_of writes object = option_map (λ write. write.header) (find (is_of object) writes)
 
--- the header of an object in a write, if there is one and it is of the object
-abbrev pub header_at : ℕ × ℕ → Option OwnWrite → Option CellRef
-header_at object None = None
-header_at object (Some write) = if is_of object write then Some write.header else None
+-- there is a write, and it is of the object
+abbrev pub is_at : ℕ × ℕ → Option OwnWrite → Bool
+is_at object None = false
+is_at object (Some write) = is_of object write
 
--- the write is of an object before another, in the order of class, then id
-abbrev pub is_before : ℕ × ℕ → OwnWrite → Bool
-is_before object write = nat_lt write.class object.0 || ((write.class == object.0) && nat_lt write.id object.1)
+-- an object comes before another, in the order of class, then id
+abbrev pub precedes : ℕ × ℕ → ℕ × ℕ → Bool
+precedes a b = nat_lt a.0 b.0 || ((a.0 == b.0) && nat_lt a.1 b.1)
 
 -- the object of a write
 abbrev pub object_of : OwnWrite → ℕ × ℕ
 object_of write = (write.class, write.id)
+
+-- the write is of an object before another
+abbrev pub is_before : ℕ × ℕ → OwnWrite → Bool
+is_before object write = precedes (object_of write) object
 
 -- every write is of an object before this one
 abbrev pub AllBefore : ℕ × ℕ → List OwnWrite → Type 0
@@ -36,11 +40,30 @@ NoneBefore object [] = Unit {0}
 NoneBefore object (write ∷ writes) = (is_before object write ≡ false) × NoneBefore object writes
 
 -- every write is of an object behind this one
-abbrev pub AllBehind : OwnWrite → List OwnWrite → Type 0
-AllBehind first [] = Unit {0}
-AllBehind first (write ∷ writes) = (is_before (object_of write) first ≡ true) × AllBehind first writes
+abbrev pub AllBehind : ℕ × ℕ → List OwnWrite → Type 0
+AllBehind object [] = Unit {0}
+AllBehind object (write ∷ writes) = (precedes object (object_of write) ≡ true) × AllBehind object writes
 
 -- the writes are in the order of class, then id, each object once
 abbrev pub AreOrdered : List OwnWrite → Type 0
 AreOrdered [] = Unit {0}
-AreOrdered (write ∷ writes) = AllBehind write writes × AreOrdered writes
+AreOrdered (write ∷ writes) = AllBehind (object_of write) writes × AreOrdered writes
+
+-- A list cut at an object: what is before it, and what is behind it; between them there may be one write of it.
+pub record Cut (object : ℕ × ℕ) (front back : List OwnWrite) : Type 0 where
+  pub front_ordered : AreOrdered front
+  pub back_ordered : AreOrdered back
+  pub before : AllBefore object front
+  pub behind : AllBehind object back
+
+-- the object isn't written, and its place would be this one
+pub record IsGap (object : ℕ × ℕ) (writes : List OwnWrite) (place : ℕ) : Type 0 where
+  pub within : place ≤ length writes
+  pub cut : Cut object (take place writes) (drop place writes)
+
+-- the write at the place is of the object
+pub record IsPlace (object : ℕ × ℕ) (writes : List OwnWrite) (place : ℕ) : Type 0 where
+  pub write : OwnWrite
+  pub at : slice_get writes place ≡ Some write
+  pub same : object_of write ≡ object
+  pub cut : Cut object (take place writes) (drop (place + 1) writes)

@@ -1,9 +1,9 @@
 //! The objects that an open transaction wrote, in the order of class, then id, each once with the header of its version, in room that is
 //! reserved. It touches its own vector alone.
 
-ghost use Rattle.std.specs.Prelude.{◌≡◌, ◌≢◌, ◌-◌, ◌+◌, ◌<◌, ◌≤◌, ◌==◌, ◌∷◌, ◌++◌, ℕ, [], length, take, drop, insert, remove, None, Some, OnOk, OnErr, slice_get, slice_set, vec_capacity};
+ghost use Rattle.std.specs.Prelude.{◌≡◌, ◌≢◌, ◌-◌, ◌+◌, ◌<◌, ◌≤◌, ◌==◌, ◌∷◌, ◌++◌, ℕ, [], length, take, drop, insert, remove, None, Some, IfOk, IfErr, OnOk, OnErr, slice_get, slice_set, vec_capacity};
 ghost use Rattle.std.specs.Option.{option_copied};
-ghost use Rattle.rdb_registry.specs.OwnWrites.{header_of, header_at, is_before, AreOrdered, AllBefore, NoneBefore};
+ghost use Rattle.rdb_registry.specs.OwnWrites.{header_of, is_at, is_before, AreOrdered, AllBefore, NoneBefore, IsPlace, IsGap};
 
 use rdb_base::limits::MAX_PLACES;
 use rdb_base::list::NoMemory;
@@ -58,12 +58,24 @@ fn place_of(writes: &[OwnWrite], class: u32, id: u64) -> usize
     writes.partition_point(|write| is_before(write, class, id))
 }
 
-// The header of the object, if the write at a place is of it.
-fn header_at(writes: &[OwnWrite], place: usize, class: u32, id: u64) -> Option<CellRef>
-    ensures { result ≡ header_at (class, id) (slice_get writes.now place) }
+// Whether there is a write at a place, and it is of the object.
+fn is_at(writes: &[OwnWrite], place: usize, class: u32, id: u64) -> bool
+    ensures { result ≡ is_at (class, id) (slice_get writes.now place) }
 {
-    let write = writes.get(place)?;
-    if write.class == class && write.id == id { Some(write.header) } else { None }
+    match writes.get(place) {
+        Some(write) => write.class == class && write.id == id,
+        None => false,
+    }
+}
+
+// The place of the object's write, or else the one where it would be.
+fn find(writes: &[OwnWrite], class: u32, id: u64) -> Result<usize, usize>
+    requires { AreOrdered writes.now }
+    ensures ok { IfOk result (IsPlace (class, id) writes.now) }
+    ensures err { IfErr result (IsGap (class, id) writes.now) }
+{
+    let place = place_of(writes, class, id);
+    if is_at(writes, place, class, id) { Ok(place) } else { Err(place) }
 }
 
 impl OwnWrites {
@@ -107,12 +119,10 @@ impl OwnWrites {
         ensures others { (object : ℕ × ℕ) → object ≢ (class, id) → header_of self.new.items object ≡ header_of self.old.items object }
         ensures room { self.new.room + length self.new.items ≡ self.old.room + length self.old.items }
     {
-        let place = place_of(&self.writes, class, id);
         let write = OwnWrite { class, id, header };
-        if header_at(&self.writes, place, class, id).is_some() {
-            self.writes[place] = write;
-        } else {
-            self.insert(place, write);
+        match find(&self.writes, class, id) {
+            Ok(place) => self.writes[place] = write,
+            Err(place) => self.insert(place, write),
         }
     }
 
@@ -135,8 +145,7 @@ impl OwnWrites {
         ensures others { (object : ℕ × ℕ) → object ≢ (class, id) → header_of self.new.items object ≡ header_of self.old.items object }
         ensures room { self.new.room + length self.new.items ≡ self.old.room + length self.old.items }
     {
-        let place = place_of(&self.writes, class, id);
-        if header_at(&self.writes, place, class, id).is_some() {
+        if let Ok(place) = find(&self.writes, class, id) {
             self.writes.remove(place);
             self.room += 1;
         }
@@ -154,8 +163,10 @@ impl OwnWrites {
     pub fn get(&self, class: u32, id: u64) -> Option<CellRef>
         ensures { result ≡ header_of self.now.items (class, id) }
     {
-        let place = place_of(&self.writes, class, id);
-        header_at(&self.writes, place, class, id)
+        match find(&self.writes, class, id) {
+            Ok(place) => Some(self.writes[place].header),
+            Err(_) => None,
+        }
     }
 
     /// The first object in the order of class, then id, if there is one. The cost is constant.
