@@ -1,6 +1,6 @@
 -- What a registry keeps, as one slot is written.
 use Rattle.std.proofs.Common.{◌≡◌, ◌≢◌, ◌<◌, ◌≤◌, ◌+◌, ◌^◌, ◌⊎◌, max, ℕ, zero, suc, Bool, true, false, cond, List, [], ◌∷◌, ◌++◌, length, map, set, replicate, Result, Ok, Err, OnErr, Option, Some, None, is_some, is_none, slice_get, option_map, option_and_then, position, MatchOption, count_by, find, ◌&&◌, ◌==◌, ne_eqb, eq-eqb, ◌-◌, refl, sym, ap, subst, inl, inr, ◌∙◌, arith}
-use Rattle.std.proofs.lemmas.List.{map-set, length-set, length-map}
+use Rattle.std.proofs.lemmas.List.{map-set, length-set, length-map, length-replicate}
 use Rattle.std.proofs.lemmas.Option.{slice_get_within, slice_get-map}
 use Rattle.std.proofs.lemmas.Bool.{cases_eq, cases_lt}
 use Rattle.std.proofs.lemmas.Bool.{and_left, and_right}
@@ -16,7 +16,7 @@ use Rattle.rdb_registry.specs.declared.seat.Condemned.{Condemned}
 use Rattle.rdb_registry.specs.declared.seat.Condemnation.{Condemnation}
 use Rattle.rdb_registry.specs.declared.transactions.Openings.{Openings}
 use Rattle.rdb_registry.specs.Seats.{Seats, slot_count, seat_in, seat_of, EachSeat, changed, Opening, openings, opening_in, opening_of, HoldsLatch, condemned_in, with_condemned, is_of, IsNew, NoneHolds, NoOtherHolds, with_latch, all_latches}
-use Rattle.rdb_registry.specs.Registry.{Roll, IsRoll, IsSeated}
+use Rattle.rdb_registry.specs.Registry.{Roll, IsRoll, IsSeated, Connects, max_classes}
 use Rattle.rdb_registry.specs.Kept.{record_of, seats_of, AreOpenings, is_live, IsSlot, IsKept}
 use Rattle.rdb_registry.proofs.SlotLemmas.{at_set_same, at_set_other, set_same, one_if, count_set, HeldAt, held_by, seat_in_of, seat_in_same, seat_in_other, record_at}
 
@@ -445,3 +445,54 @@ kept_condemned {all} {takers} {kept} {condemned} {table} {serials} k i slot entr
 pub on_err : {T E : Type 0} (r : Result T E) (P : Type 0) → P → OnErr r P
 on_err (Ok x) P p = tt
 on_err (Err e) P p = p
+
+-- a list of one element, repeated
+of_replicate : {X : Type 0} (n i : ℕ) (x y : X) → slice_get (replicate n x) i ≡ Some y → x ≡ y
+of_replicate zero i x y e = let no : None ≡ Some y = e in absurd cc
+of_replicate (suc n) zero x y e = let one : Some x ≡ Some y = e in cc
+of_replicate (suc n) (suc i) x y e = of_replicate n i x y e
+
+nobody : (n i : ℕ) (seat : Seat) → seat_in (replicate n None) i ≡ Some seat → ⊥
+nobody zero i seat e = let no : None ≡ Some seat = e in cc
+nobody (suc n) zero seat e = let no : None ≡ Some seat = e in cc
+nobody (suc n) (suc i) seat e = nobody n i seat e
+
+none_open : (n slot : ℕ) (o : Opening) → slice_get (openings (replicate n None)) slot ≡ Some (Some o) → ⊥
+none_open zero slot o e = let no : None ≡ Some (Some o) = e in cc
+none_open (suc n) zero o e = let no : Some None ≡ Some (Some o) = e in cc
+none_open (suc n) (suc slot) o e = none_open n slot o e
+
+-- nothing spent, in so many classes
+abbrev zeros : ℕ → List ℕ
+zeros n = replicate n 0
+
+-- what is kept where nobody is connected
+pub kept_none :
+    (all : List Slot) (takers : List ℕ) (table : List (List ℕ)) (classes : ℕ) → length all ≡ slot_count → seats_of all ≡ replicate slot_count None
+    → length takers ≡ classes → classes ≤ max_classes → table ≡ replicate slot_count (zeros classes)
+    → IsKept all takers (record { lowest = None; writer = None; least = None }) (record { items = []; room = 0 }) table 0
+kept_none all takers table classes count seats count' few empty = record {
+  count = count;
+  classes = rw count' few;
+  seated = λ slot seat there. absurd (nobody slot_count slot seat (ap (λ (s : Seats). seat_in s slot) (sym seats) ∙ there));
+  openings = subst (λ (s : Seats). AreOpenings (openings s) (record { lowest = None; writer = None; least = None })) (sym seats) (record { lowest = refl; writer = refl; least = none_open slot_count });
+  room = subst (λ (s : Seats). count_by is_live s ≤ 0) (sym seats) (omega arith);
+  drawn = λ place entry there. (let no : None ≡ Some entry = there in absurd cc);
+  spent = ap length empty ∙ length-replicate slot_count (zeros classes);
+  rows = λ slot row there.
+    let same = of_replicate slot_count slot (zeros classes) row (ap (λ (t : List (List ℕ)). slice_get t slot) (sym empty) ∙ there) in
+    ap length (sym same) ∙ (length-replicate classes 0 ∙ sym count');
+}
+
+-- a registry's contents with equal records and an equal list
+pub roll_same : (r : Roll) (seats : Seats) (list : List Condemnation) → seats ≡ r.seats → list ≡ r.condemned → record r { seats = seats; condemned = list } ≡ r
+roll_same r seats list e f = λ i. record r { seats = e i; condemned = f i }
+
+pub roll_after :
+    (r : Roll) (seats seats' : Seats) (list : List Condemnation) (serials : ℕ) → seats ≡ seats' → list ≡ r.condemned
+    → record r { seats = seats; condemned = list; serials = serials } ≡ record r { seats = seats'; serials = serials }
+roll_after r seats seats' list serials e f = λ i. record r { seats = e i; condemned = f i; serials = serials }
+
+-- a connection that was made, in a registry's contents
+pub connects_is : (r now new : Roll) (c : ConnId) → r ≡ now → Connects r new c → Connects now new c
+connects_is r now new c same made = subst (λ (x : Roll). Connects x new c) same made

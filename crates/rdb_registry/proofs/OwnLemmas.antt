@@ -5,7 +5,7 @@ use Rattle.std.specs.Option.{option_or}
 use Rattle.std.proofs.lemmas.Bool.{cases_order, cases_Bool, and_parts, and_from, false≢true}
 use Rattle.rdb_pages.specs.declared.cell.CellRef.{CellRef}
 use Rattle.rdb_registry.specs.declared.own_writes.OwnWrite.{OwnWrite}
-use Rattle.rdb_registry.specs.OwnWrites.{is_of, is_at, header_of, Cut, IsGap, IsPlace, precedes, object_of, is_before, AllBefore, NoneBefore, AllBehind, AreOrdered}
+use Rattle.rdb_registry.specs.OwnWrites.{is_of, is_at, header_of, IsBetween, Cut, IsGap, IsPlace, precedes, object_of, is_before, AllBefore, NoneBefore, AllBehind, AreOrdered}
 
 -- what it means that an object comes before another
 Before : ℕ × ℕ → ℕ × ℕ → Type 0
@@ -222,35 +222,6 @@ drop_at zero (x ∷ ws) w at = let one : Some x ≡ Some w = at in let e : x ≡
 drop_at (suc i) [] w at = let no : None ≡ Some w = at in absurd cc
 drop_at (suc i) (x ∷ ws) w at = drop_at i ws w at
 
--- where the object isn't written
-pub gap_at : (o : ℕ × ℕ) (i : ℕ) (ws : List OwnWrite) → i ≤ length ws → AreOrdered ws → AllBefore o (take i ws) → NoneBefore o (drop i ws) → is_at o (slice_get ws i) ≡ false → IsGap o ws i
-gap_at o i ws le ordered before none absent = record {
-  within = le;
-  cut = record {
-    front_ordered = ordered_take i ws ordered;
-    back_ordered = ordered_drop i ws ordered;
-    before = before;
-    behind = behind_none o (drop i ws) none (ordered_drop i ws ordered) (ap (is_at o) (at_drop i ws) ∙ absent);
-  };
-}
-
--- where it is written
-pub place_at : (o : ℕ × ℕ) (i : ℕ) (ws : List OwnWrite) → AreOrdered ws → AllBefore o (take i ws) → NoneBefore o (drop i ws) → is_at o (slice_get ws i) ≡ true → IsPlace o ws i
-place_at o i ws ordered before none present = go (slice_get ws i) refl present
-  where
-    go : (found : Option OwnWrite) → slice_get ws i ≡ found → is_at o found ≡ true → IsPlace o ws i
-    go None at e = absurd (false≢true e)
-    go (Some w) at e =
-        let rest : drop i ws ≡ w ∷ drop (i + 1) ws = rw add-one (drop_at i ws w at) in
-        let back = subst AreOrdered rest (ordered_drop i ws ordered) in
-        let same = of_true o w e in
-        record {
-          write = w;
-          at = at;
-          same = same;
-          cut = record { front_ordered = ordered_take i ws ordered; back_ordered = back.1; before = before; behind = subst (λ (x : ℕ × ℕ). AllBehind x (drop (i + 1) ws)) same back.0 };
-        }
-
 whole : {o : ℕ × ℕ} {i : ℕ} (ws : List OwnWrite) (p : IsPlace o ws i) → ws ≡ take i ws ++ p.write ∷ drop (i + 1) ws
 whole {o} {i} ws p = sym (split i ws) ∙ ap (λ zs. take i ws ++ zs) (rw add-one (drop_at i ws p.write p.at))
 
@@ -298,30 +269,85 @@ pub remove_is : (i : ℕ) (ws : List OwnWrite) → remove ws i ≡ take i ws ++ 
 remove_is i ws = rw add-one refl
 
 -- the writes before an object stand in front
-pub partitioned : (o : ℕ × ℕ) (ws : List OwnWrite) → AreOrdered ws → (i j : ℕ) (d : OwnWrite) → i ≤ j → j < length ws → is_before o (get_or ws j d) ≡ true → is_before o (get_or ws i d) ≡ true
-partitioned o [] ordered i j d le lt e = absurd (omega arith)
-partitioned o (w ∷ ws) ordered zero zero d le lt e = e
-partitioned o (w ∷ ws) ordered zero (suc j) d le lt e = trans (object_of w) (object_of (get_or ws j d)) o (behind_at ws j ordered.0 (omega arith)) e
-  where
-    behind_at : (ws : List OwnWrite) (j : ℕ) → AllBehind (object_of w) ws → j < length ws → precedes (object_of w) (object_of (get_or ws j d)) ≡ true
-    behind_at [] j all lt = absurd (omega arith)
-    behind_at (x ∷ xs) zero all lt = all.0
-    behind_at (x ∷ xs) (suc j) all lt = behind_at xs j all.1 (omega arith)
-partitioned o (w ∷ ws) ordered (suc i) zero d le lt e = absurd (omega arith)
-partitioned o (w ∷ ws) ordered (suc i) (suc j) d le lt e = partitioned o ws ordered.1 i j d (omega arith) (omega arith) e
+behind_at : (o : ℕ × ℕ) (ws : List OwnWrite) (j : ℕ) (v : OwnWrite) → AllBehind o ws → slice_get ws j ≡ Some v → precedes o (object_of v) ≡ true
+behind_at o [] j v all at = let no : None ≡ Some v = at in absurd cc
+behind_at o (x ∷ xs) zero v all at = let one : Some x ≡ Some v = at in let e : x ≡ v = cc in subst (λ (y : OwnWrite). precedes o (object_of y) ≡ true) e all.0
+behind_at o (x ∷ xs) (suc j) v all at = behind_at o xs j v all.1 at
 
-pub all_before : (o : ℕ × ℕ) (ws : List OwnWrite) (i : ℕ) → i ≤ length ws → ((k : ℕ) (d : OwnWrite) → 0 ≤ k → k < i → is_before o (get_or ws k d) ≡ true) → AllBefore o (take i ws)
-all_before o [] zero le each = tt
-all_before o [] (suc i) le each = tt
-all_before o (w ∷ ws) zero le each = tt
-all_before o (w ∷ ws) (suc i) le each = (each 0 w (omega arith) (omega arith), all_before o ws i (omega arith) (λ k d low high. each (suc k) d (omega arith) (omega arith)))
+pub in_front : (o : ℕ × ℕ) (ws : List OwnWrite) → AreOrdered ws → (i j : ℕ) (u v : OwnWrite) → i ≤ j → slice_get ws i ≡ Some u → slice_get ws j ≡ Some v → is_before o v ≡ true → is_before o u ≡ true
+in_front o [] ordered i j u v le at at' e = let no : None ≡ Some u = at in absurd cc
+in_front o (w ∷ ws) ordered zero zero u v le at at' e = let one : Some u ≡ Some v = sym at ∙ at' in let same : v ≡ u = cc in subst (λ (y : OwnWrite). is_before o y ≡ true) same e
+in_front o (w ∷ ws) ordered zero (suc j) u v le at at' e =
+    let one : Some w ≡ Some u = at in
+    let same : w ≡ u = cc in
+    trans (object_of u) (object_of v) o (subst (λ (y : OwnWrite). precedes (object_of y) (object_of v) ≡ true) same (behind_at (object_of w) ws j v ordered.0 at')) e
+in_front o (w ∷ ws) ordered (suc i) zero u v le at at' e = absurd (omega arith)
+in_front o (w ∷ ws) ordered (suc i) (suc j) u v le at at' e = in_front o ws ordered.1 i j u v (omega arith) at at' e
 
-pub none_from : (o : ℕ × ℕ) (ws : List OwnWrite) (i : ℕ) → ((k : ℕ) (d : OwnWrite) → i ≤ k → k < length ws → is_before o (get_or ws k d) ≡ false) → NoneBefore o (drop i ws)
+-- the range is halved at a place
+pub upper_half : (o : ℕ × ℕ) (ws : List OwnWrite) (low high middle : ℕ) (w : OwnWrite) → AreOrdered ws → IsBetween o ws low high → low ≤ middle → middle < high → slice_get ws middle ≡ Some w → is_before o w ≡ true
+    → IsBetween o ws (middle + 1) high
+upper_half o ws low high middle w ordered b le lt at e = record {
+  range = omega arith;
+  within = b.within;
+  below = λ k v below at'. in_front o ws ordered k middle v w (omega arith) at' at e;
+  above = b.above;
+}
+
+pub lower_half : (o : ℕ × ℕ) (ws : List OwnWrite) (low high middle : ℕ) (w : OwnWrite) → AreOrdered ws → IsBetween o ws low high → low ≤ middle → middle < high → slice_get ws middle ≡ Some w → is_before o w ≡ false
+    → IsBetween o ws low middle
+lower_half o ws low high middle w ordered b le lt at e = record {
+  range = le;
+  within = (let within = b.within in omega arith);
+  below = b.below;
+  above = λ k v above at'. elim (cases_Bool (is_before o v)) [
+    | inl t ↦ no_test (is_before o w) e (in_front o ws ordered middle k w v above at at' t)
+    | inr f ↦ f
+  ];
+}
+
+-- a range without a place has the place of the object
+pub all_before : (o : ℕ × ℕ) (ws : List OwnWrite) (i : ℕ) → ((k : ℕ) (w : OwnWrite) → k < i → slice_get ws k ≡ Some w → is_before o w ≡ true) → AllBefore o (take i ws)
+all_before o [] zero each = tt
+all_before o [] (suc i) each = tt
+all_before o (w ∷ ws) zero each = tt
+all_before o (w ∷ ws) (suc i) each = (each 0 w (omega arith) refl, all_before o ws i (λ k v lt at. each (suc k) v (omega arith) at))
+
+none_all : (o : ℕ × ℕ) (ws : List OwnWrite) → ((k : ℕ) (w : OwnWrite) → slice_get ws k ≡ Some w → is_before o w ≡ false) → NoneBefore o ws
+none_all o [] each = tt
+none_all o (x ∷ xs) each = (each 0 x refl, none_all o xs (λ k v at. each (suc k) v at))
+
+pub none_from : (o : ℕ × ℕ) (ws : List OwnWrite) (i : ℕ) → ((k : ℕ) (w : OwnWrite) → i ≤ k → slice_get ws k ≡ Some w → is_before o w ≡ false) → NoneBefore o (drop i ws)
 none_from o [] zero each = tt
 none_from o [] (suc i) each = tt
-none_from o (w ∷ ws) zero each = (each 0 w (omega arith) (omega arith), none_all ws (λ k d lt. each (suc k) d (omega arith) (omega arith)))
+none_from o (w ∷ ws) zero each = none_all o (w ∷ ws) (λ k v at. each k v (omega arith) at)
+none_from o (w ∷ ws) (suc i) each = none_from o ws i (λ k v le at. each (suc k) v (omega arith) at)
+
+-- where the object isn't written
+pub gap_at : (o : ℕ × ℕ) (i : ℕ) (ws : List OwnWrite) → AreOrdered ws → IsBetween o ws i i → is_at o (slice_get ws i) ≡ false → IsGap o ws i
+gap_at o i ws ordered b absent = record {
+  within = b.within;
+  cut = record {
+    front_ordered = ordered_take i ws ordered;
+    back_ordered = ordered_drop i ws ordered;
+    before = all_before o ws i b.below;
+    behind = behind_none o (drop i ws) (none_from o ws i b.above) (ordered_drop i ws ordered) (ap (is_at o) (at_drop i ws) ∙ absent);
+  };
+}
+
+-- where it is written
+pub place_at : (o : ℕ × ℕ) (i : ℕ) (ws : List OwnWrite) → AreOrdered ws → IsBetween o ws i i → is_at o (slice_get ws i) ≡ true → IsPlace o ws i
+place_at o i ws ordered b present = go (slice_get ws i) refl present
   where
-    none_all : (ws : List OwnWrite) → ((k : ℕ) (d : OwnWrite) → k < length ws → is_before o (get_or ws k d) ≡ false) → NoneBefore o ws
-    none_all [] each = tt
-    none_all (x ∷ xs) each = (each 0 x (omega arith), none_all xs (λ k d lt. each (suc k) d (omega arith)))
-none_from o (w ∷ ws) (suc i) each = none_from o ws i (λ k d low high. each (suc k) d (omega arith) (omega arith))
+    go : (found : Option OwnWrite) → slice_get ws i ≡ found → is_at o found ≡ true → IsPlace o ws i
+    go None at e = absurd (false≢true e)
+    go (Some w) at e =
+        let rest : drop i ws ≡ w ∷ drop (i + 1) ws = rw add-one (drop_at i ws w at) in
+        let back = subst AreOrdered rest (ordered_drop i ws ordered) in
+        let same = of_true o w e in
+        record {
+          write = w;
+          at = at;
+          same = same;
+          cut = record { front_ordered = ordered_take i ws ordered; back_ordered = back.1; before = all_before o ws i b.below; behind = subst (λ (x : ℕ × ℕ). AllBehind x (drop (i + 1) ws)) same back.0 };
+        }

@@ -1,5 +1,5 @@
 -- The objects that a transaction wrote.
-use Rattle.std.specs.Prelude.{◌≡◌, ◌+◌, ◌≤◌, ◌==◌, ◌&&◌, ◌||◌, nat_lt, ℕ, Bool, true, false, List, [], ◌∷◌, length, take, drop, slice_get, Option, Some, None, find}
+use Rattle.std.specs.Prelude.{◌≡◌, ◌+◌, ◌<◌, ◌≤◌, ◌==◌, ◌&&◌, ◌||◌, nat_lt, ℕ, Bool, true, false, List, [], ◌∷◌, length, take, drop, slice_get, Option, Some, None, find}
 use Rattle.std.specs.Option.{option_map}
 use Rattle.rdb_pages.specs.declared.cell.CellRef.{CellRef}
 use Rattle.rdb_registry.specs.declared.own_writes.OwnWrite.{OwnWrite}
@@ -67,3 +67,10 @@ pub record IsPlace (object : ℕ × ℕ) (writes : List OwnWrite) (place : ℕ) 
   pub at : slice_get writes place ≡ Some write
   pub same : object_of write ≡ object
   pub cut : Cut object (take place writes) (drop (place + 1) writes)
+
+-- The place of the object lies between two: the writes below the first are of objects before it, and those from the second on aren't.
+pub record IsBetween (object : ℕ × ℕ) (writes : List OwnWrite) (low high : ℕ) : Type 0 where
+  pub range : low ≤ high
+  pub within : high ≤ length writes
+  pub below : (k : ℕ) (write : OwnWrite) → k < low → slice_get writes k ≡ Some write → is_before object write ≡ true
+  pub above : (k : ℕ) (write : OwnWrite) → high ≤ k → slice_get writes k ≡ Some write → is_before object write ≡ false

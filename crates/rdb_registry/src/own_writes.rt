@@ -3,7 +3,7 @@
 
 ghost use Rattle.std.specs.Prelude.{◌≡◌, ◌≢◌, ◌-◌, ◌+◌, ◌<◌, ◌≤◌, ◌==◌, ◌∷◌, ◌++◌, ℕ, [], length, take, drop, insert, remove, None, Some, IfOk, IfErr, OnOk, OnErr, slice_get, slice_set, vec_capacity};
 ghost use Rattle.std.specs.Option.{option_copied};
-ghost use Rattle.rdb_registry.specs.OwnWrites.{header_of, is_at, is_before, AreOrdered, AllBefore, NoneBefore, IsPlace, IsGap};
+ghost use Rattle.rdb_registry.specs.OwnWrites.{header_of, is_at, is_before, AreOrdered, IsBetween, IsPlace, IsGap};
 
 use rdb_base::limits::MAX_PLACES;
 use rdb_base::list::NoMemory;
@@ -48,14 +48,32 @@ fn is_before(write: &OwnWrite, class: u32, id: u64) -> bool
     write.class < class || (write.class == class && write.id < id)
 }
 
-// How many of the writes are of objects before this one.
+// How many of the writes are of objects before this one, by halves.
 fn place_of(writes: &[OwnWrite], class: u32, id: u64) -> usize
     requires { AreOrdered writes.now }
-    ensures bound { result ≤ length writes.now }
-    ensures before { AllBefore (class, id) (take result writes.now) }
-    ensures from { NoneBefore (class, id) (drop result writes.now) }
+    ensures { IsBetween (class, id) writes.now result result }
 {
-    writes.partition_point(|write| is_before(write, class, id))
+    let mut range = (0, writes.len());
+    while range.0 < range.1 {
+        range = narrowed(writes, class, id, range);
+    }
+    range.0
+}
+
+// The half of a range in which the place of an object lies.
+fn narrowed(writes: &[OwnWrite], class: u32, id: u64, range: (usize, usize)) -> (usize, usize)
+    requires ordered { AreOrdered writes.now }
+    requires some { range.0 < range.1 }
+    requires between { IsBetween (class, id) writes.now range.0 range.1 }
+    ensures between { IsBetween (class, id) writes.now result.0 result.1 }
+    ensures smaller { result.1 - result.0 < range.1 - range.0 }
+{
+    let middle = range.0 + (range.1 - range.0) / 2;
+    if is_before(&writes[middle], class, id) {
+        (middle + 1, range.1)
+    } else {
+        (range.0, middle)
+    }
 }
 
 // Whether there is a write at a place, and it is of the object.
@@ -145,9 +163,12 @@ impl OwnWrites {
         ensures others { (object : ℕ × ℕ) → object ≢ (class, id) → header_of self.new.items object ≡ header_of self.old.items object }
         ensures room { self.new.room + length self.new.items ≡ self.old.room + length self.old.items }
     {
-        if let Ok(place) = find(&self.writes, class, id) {
-            self.writes.remove(place);
-            self.room += 1;
+        match find(&self.writes, class, id) {
+            Ok(place) => {
+                self.writes.remove(place);
+                self.room += 1;
+            }
+            Err(_) => (),
         }
     }
 

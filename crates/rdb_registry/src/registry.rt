@@ -8,7 +8,7 @@
 //! | list of the condemned   | `condemned`                                      | `condemn`               |
 //! | spent, by slot and class | `spent`                                         | `spend`                 |
 
-ghost use Rattle.std.specs.Prelude.{◌≡◌, ◌+◌, ◌^◌, ◌<◌, ◌≤◌, ◌∷◌, ◌++◌, ℕ, [], length, replicate, map, position, is_none, slice_set, None, Some, Err, IfSome, not, IfOk, OnOk, OnErr, IsSomeAnd};
+ghost use Rattle.std.specs.Prelude.{◌≡◌, ◌+◌, ◌^◌, ◌<◌, ◌≤◌, ◌∷◌, ◌++◌, ℕ, [], length, replicate, map, position, is_some, is_none, slice_set, None, Some, Err, IfSome, not, IfOk, OnOk, OnErr, IsSomeAnd};
 ghost use Rattle.std.specs.Option.{option_copied};
 ghost use Rattle.std.specs.Borrow.{sem};
 ghost use Rattle.rdb_registry.specs.Seats.{slot_count, seat_in, seat_of, IsHeld, AllHeld, changed, condemned_in, with_condemned};
@@ -83,6 +83,13 @@ impl Registry {
         })
     }
 
+    /// How many classes there are.
+    pub fn classes(&self) -> u32
+        ensures { result ≡ self.now.classes }
+    {
+        self.takers.len() as u32
+    }
+
     /// Says what is so of every registry. It does nothing.
     pub fn sound(&self)
         ensures { IsRoll self.now }
@@ -141,6 +148,13 @@ impl Registry {
     {
         let seat = self.at(c.slot)?;
         if seat.conn == c { Some(seat) } else { None }
+    }
+
+    /// Whether a connection is held.
+    pub fn is_held(&self, c: ConnId) -> bool
+        ensures { result ≡ is_some (seat_of self.now.seats c) }
+    {
+        self.seat(c).is_some()
     }
 
     /// Lends what a connection has in hand, to be changed. All else stays.

@@ -1,16 +1,19 @@
--- The writes before an object stand in front.
-use Rattle.std.proofs.Common.{rules}
-use Rattle.std.proofs.lemmas.List.Sorted.{answers_always}
-use Rattle.rdb_registry.specs.OwnWrites.{is_before}
-use Rattle.rdb_registry.proofs.OwnLemmas.{partitioned, all_before, none_from}
+-- At first the range is the whole list; at last it is one place.
+use Rattle.std.proofs.Common.{◌≡◌, ℕ, subst, arith}
+use Rattle.std.proofs.lemmas.Option.{slice_get_within}
+use Rattle.rdb_registry.specs.OwnWrites.{IsBetween}
 use Rattle.rdb_registry.proofs.own_writes.place_of.Goals as goal
 
-pub returns-clause-before : goal.returns-clause-before
-returns-clause-before c =
-    let cut = c.partition_point.ensures.partitioned (is_before (c.args.class, c.args.id)) (answers_always _ _ _ (λ f a r g h. search rules)) (partitioned (c.args.class, c.args.id) c.args.writes.now c.requires) in
-    all_before (c.args.class, c.args.id) c.args.writes.now c.partition_point.result c.partition_point.ensures.bound cut.0
+pub loop-range-init : goal.loop-range-init
+loop-range-init c = record {
+  range = omega arith;
+  within = omega arith;
+  below = λ k write lt at. absurd (omega arith);
+  above = λ k write le at. (let lt = slice_get_within c.args.writes.now k write at in absurd (omega arith));
+}
 
-pub returns-clause-from : goal.returns-clause-from
-returns-clause-from c =
-    let cut = c.partition_point.ensures.partitioned (is_before (c.args.class, c.args.id)) (answers_always _ _ _ (λ f a r g h. search rules)) (partitioned (c.args.class, c.args.id) c.args.writes.now c.requires) in
-    none_from (c.args.class, c.args.id) c.args.writes.now c.partition_point.result cut.1
+pub returns : goal.returns
+returns c =
+    let range = c.loop-range.invariant.range in
+    let same : c.loop-range.range.1 ≡ c.loop-range.range.0 = omega arith in
+    subst (λ (n : ℕ). IsBetween (c.args.class, c.args.id) c.args.writes.now c.loop-range.range.0 n) same c.loop-range.invariant

@@ -7,7 +7,7 @@ use Rattle.rdb_registry.specs.Registry.{Roll, Connects}
 use Rattle.rdb_registry.specs.contracts.registry.Registry.{the_view}
 use Rattle.rdb_registry.specs.Kept.{seats_of}
 use Rattle.rdb_registry.proofs.SlotLemmas.{lowest_is_free}
-use Rattle.rdb_registry.proofs.KeptLemmas.{kept_same, kept_connected, still_free, seats_of_set, record_held, on_err}
+use Rattle.rdb_registry.proofs.KeptLemmas.{kept_same, kept_connected, still_free, seats_of_set, record_held, on_err, roll_same, roll_after, connects_is}
 use Rattle.rdb_registry.proofs.registry.Registry.connect.Goals as goal
 
 pub invariant_of-self : goal.invariant_of-self
@@ -31,8 +31,7 @@ returns-in_err-connect-clause-err c =
     let free = lowest_is_free c.self.inside.slots.items c.in-Some.slot c.index_mut.result.now first c.index_mut.ensures.value in
     let seats = still_free c.self.inside.slots.items c.in-Some.slot c.index_mut.result.now c.connect.new.self free.0 free.1 c.in_err-connect.ensures.err in
     let items = c.make_room.ensures.items in
-    let same = λ i. record (the_view c.self.inside) { seats = seats i; condemned = items i } in
-    on_err _ _ (same ∙ c.self.view_is)
+    on_err _ _ (roll_same (the_view c.self.inside) _ _ seats items ∙ c.self.view_is)
 
 pub invariant_of-self-2 : goal.invariant_of-self-2
 invariant_of-self-2 c =
@@ -45,11 +44,10 @@ invariant_of-self-2 c =
 pub returns-clause-ok : goal.returns-clause-ok
 returns-clause-ok c =
     let first = sym (subst (λ (all : List Slot). Some c.in-Some.slot ≡ position is_none (seats_of all)) c.deref.ensures.value c.in-Some.ensures) in
-    let conn : ConnId = record { slot = c.in-Some.slot; serial = c.self.inside.serials + 1 } in
     let seats =
         seats_of_set c.self.inside.slots.items c.in-Some.slot c.connect.new.self
         ∙ ap (set (seats_of c.self.inside.slots.items) c.in-Some.slot) (record_held c.connect.new.self c.in_ok-connect.ensures.ok.0) in
     let items = c.make_room.ensures.items in
-    let after = λ i. record (the_view c.self.inside) { seats = seats i; condemned = items i; serials = c.self.inside.serials + 1 } in
-    subst (λ (r : Roll). Connects r _ conn) c.self.view_is
+    let after = roll_after (the_view c.self.inside) _ _ _ (c.self.inside.serials + 1) seats items in
+    connects_is _ _ _ _ c.self.view_is
     (record { slot = first; serial = refl; seat = (c.connect.new.self.seat, c.in_ok-connect.ensures.ok.1, after) })
