@@ -1,5 +1,5 @@
 -- What a registry keeps, as one slot is written.
-use Rattle.std.proofs.Common.{◌≡◌, ◌≢◌, ◌<◌, ◌≤◌, ◌+◌, ◌^◌, ◌⊎◌, max, ℕ, zero, suc, Bool, true, false, cond, List, [], ◌∷◌, ◌++◌, length, map, set, replicate, Result, Ok, Err, OnErr, Option, Some, None, is_some, is_none, slice_get, option_map, option_and_then, position, MatchOption, count_by, find, ◌&&◌, ◌==◌, ne_eqb, eq-eqb, ◌-◌, refl, sym, ap, subst, inl, inr, ◌∙◌, arith}
+use Rattle.std.proofs.Common.{◌≡◌, ◌≢◌, ◌<◌, ◌≤◌, ◌+◌, ◌^◌, max, ℕ, zero, suc, Bool, true, false, cond, List, [], ◌∷◌, ◌++◌, length, set, replicate, Result, Ok, Err, OnErr, Option, Some, None, is_none, slice_get, option_map, count_by, find, ◌&&◌, ◌==◌, ne_eqb, eq-eqb, ◌-◌, refl, sym, ap, subst, inl, inr, ◌∙◌, arith}
 use Rattle.std.proofs.lemmas.List.{map-set, length-set, length-map, length-replicate}
 use Rattle.std.proofs.lemmas.Option.{slice_get_within, slice_get-map}
 use Rattle.std.proofs.lemmas.Bool.{cases_eq, cases_lt}
@@ -9,16 +9,14 @@ use Rattle.std.proofs.lemmas.Nat.Bits.{bit_at-zero, bit_at-lt, bit_at_or, bit_at
 use Rattle.std.specs.Int.{bit_at}
 use Rattle.rdb_base.specs.Room.{Reserved}
 use Rattle.rdb_base.specs.declared.identity.ConnId.{ConnId}
-use Rattle.rdb_registry.specs.declared.hand.Hand.{Hand}
 use Rattle.rdb_registry.specs.declared.seat.Seat.{Seat}
 use Rattle.rdb_registry.specs.declared.seat.Slot.{Slot}
-use Rattle.rdb_registry.specs.declared.seat.Condemned.{Condemned}
 use Rattle.rdb_registry.specs.declared.seat.Condemnation.{Condemnation}
 use Rattle.rdb_registry.specs.declared.transactions.Openings.{Openings}
-use Rattle.rdb_registry.specs.Seats.{Seats, slot_count, seat_in, seat_of, EachSeat, changed, Opening, openings, opening_in, opening_of, HoldsLatch, condemned_in, with_condemned, is_of, IsNew, NoneHolds, NoOtherHolds, with_latch, all_latches}
-use Rattle.rdb_registry.specs.Registry.{Roll, IsRoll, IsSeated, Connects, max_classes}
+use Rattle.rdb_registry.specs.Seats.{Seats, slot_count, seat_in, seat_of, changed, Opening, openings, opening_in, opening_of, HoldsLatch, condemned_in, with_condemned, is_of, IsNew, NoneHolds, NoOtherHolds, with_latch, all_latches}
+use Rattle.rdb_registry.specs.Registry.{Roll, IsRoll, Connects, max_classes}
 use Rattle.rdb_registry.specs.Kept.{record_of, seats_of, AreOpenings, is_live, IsSlot, IsKept}
-use Rattle.rdb_registry.proofs.SlotLemmas.{at_set_same, at_set_other, set_same, one_if, count_set, HeldAt, held_by, seat_in_of, seat_in_same, seat_in_other, record_at}
+use Rattle.rdb_registry.proofs.SlotLemmas.{at_set_same, at_set_other, set_same, one_if, count_set, held_by, seat_in_same, seat_in_other, record_at}
 
 -- the slot with another record
 abbrev pub with_seat : Slot → Seat → Slot

@@ -1,5 +1,5 @@
 -- The least snapshot of the open transactions, slot by slot.
-use Rattle.std.proofs.Common.{◌≡◌, ◌≢◌, ◌<◌, ◌≤◌, ◌⊎◌, ℕ, zero, suc, List, [], ◌∷◌, min, Option, Some, None, IsSome, IfSome, MatchOption, slice_get, refl, sym, ap, ◌∙◌, inl, inr, ⊎_elim, subst, ◌+◌, length, get_or, drop, add-one, drop-cons, arith}
+use Rattle.std.proofs.Common.{◌≡◌, ◌<◌, ◌≤◌, ◌⊎◌, ℕ, zero, suc, List, [], ◌∷◌, min, Option, Some, None, IsSome, IfSome, MatchOption, slice_get, refl, sym, ap, ◌∙◌, inl, inr, ⊎_elim, subst, ◌+◌, length, get_or, drop, add-one, drop-cons, arith}
 use Rattle.std.proofs.lemmas.Bool.{cases_lt}
 use Rattle.std.specs.Option.{option_map}
 use Rattle.rdb_registry.specs.declared.seat.Seat.{Seat}

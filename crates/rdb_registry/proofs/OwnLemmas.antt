@@ -1,9 +1,8 @@
 -- The objects that a transaction wrote: a list in order, cut at an object.
-use Rattle.std.proofs.Common.{◌≡◌, ◌<◌, ◌≤◌, ◌⊎◌, ◌==◌, ◌&&◌, ◌||◌, nat_lt, ℕ, zero, suc, Bool, true, false, cond, List, [], ◌∷◌, ◌++◌, length, take, drop, set, insert, remove, get_or, slice_get, Option, Some, None, find, is_some, option_map, refl, sym, ap, subst, ◌∙◌, inl, inr, ⊎_elim, arith, ltb-true, lt-ltb, eqb-true, eq-eqb, le-ltb, ltb-false, ne_eqb, add-one, ◌+◌}
+use Rattle.std.proofs.Common.{◌≡◌, ◌<◌, ◌≤◌, ◌⊎◌, ◌==◌, ◌&&◌, ◌||◌, nat_lt, ℕ, zero, suc, Bool, true, false, cond, List, [], ◌∷◌, ◌++◌, length, take, drop, set, remove, slice_get, Option, Some, None, find, option_map, refl, sym, ap, subst, ◌∙◌, inl, inr, ⊎_elim, arith, ltb-true, lt-ltb, eqb-true, eq-eqb, add-one, ◌+◌}
 use Rattle.std.proofs.lemmas.Option.{slice_get_within}
 use Rattle.std.specs.Option.{option_or}
 use Rattle.std.proofs.lemmas.Bool.{cases_order, cases_Bool, and_parts, and_from, false≢true}
-use Rattle.rdb_pages.specs.declared.cell.CellRef.{CellRef}
 use Rattle.rdb_registry.specs.declared.own_writes.OwnWrite.{OwnWrite}
 use Rattle.rdb_registry.specs.OwnWrites.{is_of, is_at, header_of, IsBetween, Cut, IsGap, IsPlace, precedes, object_of, is_before, AllBefore, NoneBefore, AllBehind, AreOrdered}
 

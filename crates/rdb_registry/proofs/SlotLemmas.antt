@@ -1,8 +1,8 @@
 -- Slots and records, as one of them is written.
-use Rattle.std.proofs.Common.{◌≡◌, ◌≢◌, ◌<◌, ◌≤◌, ◌+◌, ◌⊎◌, ℕ, zero, suc, Bool, true, false, cond, not, nat_lt, ◌&&◌, ◌==◌, List, [], ◌∷◌, length, map, get_or, set, replicate, position, Option, Some, None, is_none, IsSome, IsSomeAnd, slice_get, sum_by, refl, sym, ap, subst, ◌∙◌, arith, eqb-true, eq-eqb}
+use Rattle.std.proofs.Common.{◌≡◌, ◌≢◌, ◌<◌, ◌+◌, ℕ, zero, suc, Bool, true, false, cond, not, nat_lt, ◌&&◌, ◌==◌, List, [], ◌∷◌, length, map, get_or, set, position, Option, Some, None, is_none, IsSome, IsSomeAnd, slice_get, refl, sym, ap, subst, ◌∙◌, arith, eqb-true, eq-eqb}
 use Rattle.std.specs.List.{count_by, position_or_len}
 use Rattle.std.specs.Option.{option_map, option_and_then}
-use Rattle.std.proofs.lemmas.List.{map-set, length-map}
+use Rattle.std.proofs.lemmas.List.{length-map}
 use Rattle.std.proofs.lemmas.Option.{slice_get_within, slice_get_read, slice_get-map, get_or_from_slice_get}
 use Rattle.std.proofs.lemmas.List.Quantifiers.{position-Some}
 use Rattle.std.proofs.lemmas.List.Sums.{sum_by-set}
@@ -10,7 +10,7 @@ use Rattle.std.proofs.lemmas.Bool.{false≢true}
 use Rattle.rdb_base.specs.declared.identity.ConnId.{ConnId}
 use Rattle.rdb_registry.specs.declared.seat.Seat.{Seat}
 use Rattle.rdb_registry.specs.declared.seat.Slot.{Slot}
-use Rattle.rdb_registry.specs.Seats.{Seats, seat_in, seat_of, if_conn, IsHeld, changed, Opening, openings, opening_in}
+use Rattle.rdb_registry.specs.Seats.{Seats, seat_in, seat_of, if_conn, IsHeld, Opening, openings, opening_in}
 use Rattle.rdb_registry.specs.Kept.{record_of, seats_of}
 
 -- 1 where a test holds

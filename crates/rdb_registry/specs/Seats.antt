@@ -1,5 +1,5 @@
 -- The records of connections by slot, and what is read off them.
-use Rattle.std.specs.Prelude.{◌≡◌, ◌≢◌, ◌<◌, ◌≤◌, ◌-◌, ◌+◌, ◌^◌, ◌==◌, ◌&&◌, ℕ, Bool, true, false, List, length, map, position, slice_get, slice_set, Option, Some, None, IsSome, IsSomeAnd, MatchOption, is_some, is_none, option_and_then, find, bit_or, min, if◌then◌else◌}
+use Rattle.std.specs.Prelude.{◌≡◌, ◌≢◌, ◌≤◌, ◌-◌, ◌+◌, ◌^◌, ◌==◌, ◌&&◌, ℕ, Bool, true, false, List, map, position, slice_get, slice_set, Option, Some, None, IsSome, IsSomeAnd, is_none, option_and_then, find, bit_or, min, if◌then◌else◌}
 use Rattle.std.specs.Option.{option_map, option_map_or}
 use Rattle.std.specs.Int.{bit_at}
 use Rattle.rdb_base.specs.declared.identity.ConnId.{ConnId}

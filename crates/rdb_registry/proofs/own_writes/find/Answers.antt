@@ -1,5 +1,5 @@
 -- The write at the place is of the object, or none is.
-use Rattle.std.proofs.Common.{◌≡◌, sym, ◌∙◌}
+use Rattle.std.proofs.Common.{sym, ◌∙◌}
 use Rattle.rdb_registry.proofs.OwnLemmas.{gap_at, place_at}
 use Rattle.rdb_registry.proofs.own_writes.find.Goals as goal
 

@@ -1,5 +1,5 @@
 -- Each slot lowers the least so far; at the end nothing is left.
-use Rattle.std.proofs.Common.{◌≡◌, ◌+◌, ℕ, Option, ap, sym, ◌∙◌, drop}
+use Rattle.std.proofs.Common.{◌+◌, ℕ, Option, ap, sym, ◌∙◌, drop}
 use Rattle.std.proofs.lemmas.List.{at_drop_all}
 use Rattle.rdb_registry.specs.declared.seat.Transaction.{Transaction}
 use Rattle.std.specs.Option.{option_map}

@@ -1,6 +1,5 @@
 -- The first slot whose opening is such a one.
 use Rattle.std.proofs.Common.{is_some, refl, ◌∙◌, rules}
-use Rattle.rdb_registry.specs.Seats.{is_writer}
 use Rattle.rdb_registry.proofs.SlotLemmas.{position_of_openings}
 use Rattle.rdb_registry.proofs.transactions.lowest_open.Goals as goal
 

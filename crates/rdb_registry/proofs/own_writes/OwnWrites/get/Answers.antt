@@ -1,9 +1,9 @@
 -- The object is at its place, or nowhere.
-use Rattle.std.proofs.Common.{◌≡◌, List, Some, sym, ap, subst, ◌∙◌}
+use Rattle.std.proofs.Common.{List, Some, sym, ap, subst, ◌∙◌}
 use Rattle.std.proofs.lemmas.Option.{get_or_from_slice_get}
 use Rattle.rdb_base.specs.Room.{Reserved}
 use Rattle.rdb_registry.specs.declared.own_writes.OwnWrite.{OwnWrite}
-use Rattle.rdb_registry.specs.OwnWrites.{IsPlace, IsGap, AreOrdered, header_of}
+use Rattle.rdb_registry.specs.OwnWrites.{IsPlace, IsGap, header_of}
 use Rattle.rdb_registry.proofs.OwnLemmas.{found_at_place, not_found}
 use Rattle.rdb_registry.proofs.own_writes.OwnWrites.get.Goals as goal
 

@@ -1,5 +1,5 @@
 -- An object is written again in its place, or is new between those before it and those behind it.
-use Rattle.std.proofs.Common.{◌≡◌, ◌<◌, ◌≤◌, length, List, Some, None, insert, refl, sym, ap, subst, ◌∙◌, arith}
+use Rattle.std.proofs.Common.{◌≡◌, ◌≤◌, length, List, Some, insert, refl, sym, ap, subst, ◌∙◌, arith}
 use Rattle.std.proofs.lemmas.List.Edits.{length-insert}
 use Rattle.rdb_base.specs.Room.{Reserved}
 use Rattle.rdb_registry.specs.declared.own_writes.OwnWrite.{OwnWrite}

@@ -1,5 +1,5 @@
 -- The rest stays in order.
-use Rattle.std.proofs.Common.{◌≡◌, ◌<◌, List, Some, None, remove, refl, sym, ap, subst, ◌∙◌, arith}
+use Rattle.std.proofs.Common.{List, sym, ap, subst, ◌∙◌, arith}
 use Rattle.rdb_base.specs.Room.{Reserved}
 use Rattle.rdb_registry.specs.declared.own_writes.OwnWrite.{OwnWrite}
 use Rattle.rdb_registry.specs.OwnWrites.{IsPlace, IsGap, AreOrdered, header_of}

@@ -1,15 +1,12 @@
 -- Each connection that wasn't condemned has its place in the list.
-use Rattle.std.proofs.Common.{◌≡◌, ◌++◌, ◌∷◌, [], None, List, Option, IsSomeAnd, refl, ap, subst, sym, ◌∙◌, arith}
-use Rattle.rdb_base.specs.Room.{Reserved}
-use Rattle.rdb_base.specs.declared.identity.ConnId.{ConnId}
+use Rattle.std.proofs.Common.{◌≡◌, ◌++◌, ◌∷◌, [], None, IsSomeAnd, refl, ap, subst, sym, ◌∙◌, arith}
 use Rattle.rdb_registry.specs.declared.seat.Seat.{Seat}
 use Rattle.rdb_registry.specs.declared.seat.Condemned.{Condemned}
-use Rattle.rdb_registry.specs.declared.seat.Condemnation.{Condemnation}
 use Rattle.rdb_registry.specs.Registry.{Roll}
 use Rattle.rdb_registry.specs.contracts.registry.Registry.{the_view}
-use Rattle.rdb_registry.specs.Seats.{Seats, IsHeld, seat_of, changed, with_condemned}
+use Rattle.rdb_registry.specs.Seats.{Seats, seat_of, changed, with_condemned}
 use Rattle.rdb_registry.specs.Kept.{seats_of}
-use Rattle.rdb_registry.proofs.SlotLemmas.{HeldAt, FoundAt, found, found_at, held_by, held_within, some_and_of, is_some_from}
+use Rattle.rdb_registry.proofs.SlotLemmas.{found, found_at, held_by, held_within, some_and_of, is_some_from}
 use Rattle.rdb_registry.proofs.KeptLemmas.{kept_condemned, room_to_condemn, changed_is, told_by}
 use Rattle.rdb_registry.proofs.registry.Registry.condemn.Goals as goal
 

@@ -3,7 +3,6 @@ use Rattle.std.proofs.Common.{◌≡◌, ◌+◌, List, set, Some, is_none, posi
 use Rattle.std.proofs.lemmas.List.{length-set}
 use Rattle.rdb_base.specs.declared.identity.ConnId.{ConnId}
 use Rattle.rdb_registry.specs.declared.seat.Slot.{Slot}
-use Rattle.rdb_registry.specs.Registry.{Roll, Connects}
 use Rattle.rdb_registry.specs.contracts.registry.Registry.{the_view}
 use Rattle.rdb_registry.specs.Kept.{seats_of}
 use Rattle.rdb_registry.proofs.SlotLemmas.{lowest_is_free}

@@ -1,8 +1,8 @@
 -- The openings are those of the slots as they then are.
-use Rattle.std.proofs.Common.{◌≡◌, List, IsSome, refl, sym, ap, subst}
+use Rattle.std.proofs.Common.{List, refl, sym, subst}
 use Rattle.rdb_registry.specs.declared.seat.Slot.{Slot}
 use Rattle.rdb_registry.specs.Registry.{Roll}
-use Rattle.rdb_registry.specs.Seats.{IsHeld, openings, with_begun, with_mark, without_transaction}
+use Rattle.rdb_registry.specs.Seats.{IsHeld, openings, without_transaction}
 use Rattle.rdb_registry.specs.Kept.{seats_of, AreOpenings}
 use Rattle.rdb_registry.proofs.SlotLemmas.{found, is_some_from}
 use Rattle.rdb_registry.proofs.KeptLemmas.{kept_opened, changed_is, told, latches_of}

@@ -1,5 +1,5 @@
 -- A free slot has no record.
-use Rattle.std.proofs.Common.{◌≡◌, None, List, set, ap, subst, sym, ◌∙◌}
+use Rattle.std.proofs.Common.{None, List, set, ap, subst, sym, ◌∙◌}
 use Rattle.rdb_registry.specs.declared.seat.Slot.{Slot}
 use Rattle.rdb_registry.specs.Registry.{Roll}
 use Rattle.rdb_registry.specs.contracts.registry.Registry.{the_view}

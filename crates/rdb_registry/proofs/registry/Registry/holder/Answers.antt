@@ -1,12 +1,12 @@
 -- Who took the latch last holds it, or nobody does.
-use Rattle.std.proofs.Common.{◌≡◌, ◌<◌, ◌/◌, ◌^◌, ℕ, length, Option, Some, None, IfNone, IsSomeAnd, refl, sym, ap, subst, ◌∙◌, bit_and}
+use Rattle.std.proofs.Common.{◌≡◌, ◌<◌, length, Option, Some, None, IsSomeAnd, refl, sym, ap, subst, ◌∙◌}
 use Rattle.std.specs.Int.{bit_at}
 use Rattle.std.proofs.lemmas.Option.{slice_get_read}
 use Rattle.std.proofs.lemmas.Nat.Bits.{shr_and_one}
 use Rattle.rdb_registry.specs.declared.seat.Seat.{Seat}
 use Rattle.rdb_registry.specs.Registry.{Roll}
 use Rattle.rdb_registry.specs.Kept.{seats_of}
-use Rattle.rdb_registry.specs.Seats.{seat_in, seat_of, HoldsLatch, NoneHolds, IsHolder}
+use Rattle.rdb_registry.specs.Seats.{seat_in, HoldsLatch, NoneHolds, IsHolder}
 use Rattle.rdb_registry.proofs.SlotLemmas.{own_seat}
 use Rattle.rdb_registry.proofs.KeptLemmas.{none_holds}
 use Rattle.rdb_registry.proofs.registry.Registry.holder.Goals as goal

@@ -1,10 +1,8 @@
 -- A mark leaves the kind and the snapshot of its transaction.
-use Rattle.std.proofs.Common.{◌≡◌, List, IsSome, refl, sym, ap, subst}
-use Rattle.rdb_registry.specs.declared.seat.Slot.{Slot}
+use Rattle.std.proofs.Common.{refl, sym, subst}
 use Rattle.rdb_registry.specs.Registry.{Roll}
-use Rattle.rdb_registry.specs.Seats.{IsHeld, openings, with_begun, with_mark, without_transaction}
-use Rattle.rdb_registry.specs.Kept.{seats_of, AreOpenings}
-use Rattle.rdb_registry.proofs.SlotLemmas.{found, is_some_from}
+use Rattle.rdb_registry.specs.Seats.{IsHeld, with_mark}
+use Rattle.rdb_registry.proofs.SlotLemmas.{found}
 use Rattle.rdb_registry.proofs.OpeningLemmas.{opening_marked, unmarked_held}
 use Rattle.rdb_registry.proofs.KeptLemmas.{kept_seat, changed_is, told, latches_of}
 use Rattle.rdb_registry.proofs.registry.Registry.mark.Goals as goal

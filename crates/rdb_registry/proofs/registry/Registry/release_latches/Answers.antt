@@ -1,5 +1,5 @@
 -- A record without latches is kept like the one before.
-use Rattle.std.proofs.Common.{ℕ, refl, sym, subst}
+use Rattle.std.proofs.Common.{refl, sym, subst}
 use Rattle.rdb_registry.specs.Registry.{Roll}
 use Rattle.rdb_registry.specs.Seats.{IsHeld, with_latches}
 use Rattle.rdb_registry.proofs.SlotLemmas.{found}

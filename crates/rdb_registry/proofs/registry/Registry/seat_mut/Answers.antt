@@ -1,6 +1,5 @@
 -- A record with another hand is kept like the one before.
 use Rattle.std.proofs.Common.{◌≡◌, Option, IsSomeAnd, refl, sym, subst}
-use Rattle.rdb_registry.specs.declared.hand.Hand.{Hand}
 use Rattle.rdb_registry.specs.declared.seat.Seat.{Seat}
 use Rattle.rdb_registry.specs.Registry.{Roll}
 use Rattle.rdb_registry.specs.Seats.{IsHeld, seat_of}
@@ -12,7 +11,7 @@ pub invariant_of-self-lent : goal.invariant_of-self-lent
 invariant_of-self-lent c =
     let is_held = subst (λ (r : Roll). IsHeld r.seats c.args.c) (sym c.self.view_is) c.requires in
     let f = found c.self.inside.slots.items c.args.c c.index_mut.result.now is_held c.index_mut.ensures.value in
-    λ w. kept_seat c.self.invariant c.args.c.slot c.index_mut.result.now (record c.index_mut.result.now.seat { hand = w }) f.at f.is_held (record { conn = refl; condemned = refl }) refl
+    λ w. kept_seat {takers' = c.self.inside.takers.items} c.self.invariant c.args.c.slot c.index_mut.result.now (record c.index_mut.result.now.seat { hand = w }) f.at f.is_held (record { conn = refl; condemned = refl }) refl
     (λ class j other ne there holds taken. taken) (latches_of c.self.invariant c.args.c.slot c.index_mut.result.now f.at f.is_held) refl
 
 pub returns : goal.returns

@@ -1,5 +1,5 @@
 -- One sum of one slot's row grows.
-use Rattle.std.proofs.Common.{◌≡◌, ◌<◌, ◌+◌, ℕ, List, length, set, map, ap, subst, sym, ◌∙◌, Vec, Global, arith}
+use Rattle.std.proofs.Common.{◌<◌, ◌+◌, ℕ, List, length, map, ap, subst, sym, ◌∙◌, Vec, Global, arith}
 use Rattle.std.proofs.lemmas.List.{length-map, length-set, map-set}
 use Rattle.std.specs.Vec.{with_item}
 use Rattle.rdb_registry.specs.Registry.{Roll, spent_by, with_spent}

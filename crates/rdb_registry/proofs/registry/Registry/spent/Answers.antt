@@ -1,5 +1,5 @@
 -- Each slot has a row with a sum for each class.
-use Rattle.std.proofs.Common.{◌≡◌, ◌<◌, ℕ, List, length, ap, subst, sym, ◌∙◌, vec_len, map, Vec, Global, arith}
+use Rattle.std.proofs.Common.{◌<◌, ℕ, List, length, ap, subst, sym, ◌∙◌, map, Vec, Global, arith}
 use Rattle.std.proofs.lemmas.List.{length-map}
 use Rattle.rdb_registry.specs.Registry.{Roll, spent_by}
 use Rattle.rdb_registry.proofs.SpentLemmas.{spent_row, sum_at}

@@ -1,5 +1,5 @@
 -- A latch that no other holds is the taker's.
-use Rattle.std.proofs.Common.{◌≡◌, ◌<◌, ◌*◌, ◌^◌, ◌%◌, ℕ, refl, sym, ap, subst, length, set, bit_or, arith}
+use Rattle.std.proofs.Common.{◌<◌, refl, sym, subst, length, set, arith}
 use Rattle.std.proofs.lemmas.List.{length-set}
 use Rattle.std.proofs.lemmas.Nat.{one_shl}
 use Rattle.rdb_registry.specs.Registry.{Roll}
