@@ -1,7 +1,8 @@
 //! Whether a connection may begin a transaction, under many readers or a single writer.
 
-ghost use Rattle.std.specs.Prelude.{◌≡◌, ◌<◌, ℕ};
-ghost use Rattle.rdb_mursiw.specs.Admission.{IsAdmission, NoneBarsBelow, bars};
+ghost use Rattle.std.specs.Prelude.{◌≡◌, ℕ, false, IfSome, IfNone};
+ghost use Rattle.rdb_mursiw.specs.Admission.{IsAdmission, NoneBarsBelow, bars, bars_in};
+ghost use Rattle.rdb_base.specs.declared.identity.ConnId.{ConnId};
 
 use rdb_base::identity::{ConnId, Kind};
 use rdb_base::limits::MAX_CONNECTIONS;
@@ -20,13 +21,20 @@ pub enum Admission {
 pub fn admit(registry: &Registry, c: ConnId, kind: Kind) -> Admission
     ensures { IsAdmission registry.now.seats c kind result }
 {
-    let lowest = match kind {
-        Kind::ReadWrite => registry.lowest_open(),
-        Kind::ReadOnly => registry.lowest_writer(),
-    };
-    match lowest {
+    match lowest_in_the_way(registry, kind) {
         None => Admission::Go,
         Some(slot) => first_bar(registry, c, kind, slot),
+    }
+}
+
+// The lowest slot whose transaction is in the way of one of the kind.
+fn lowest_in_the_way(registry: &Registry, kind: Kind) -> Option<u32>
+    ensures found { IfSome result (λ slot. (c : ConnId) → NoneBarsBelow registry.now.seats c kind slot) }
+    ensures none { IfNone result ((c : ConnId) (slot : ℕ) → bars_in registry.now.seats c kind slot ≡ false) }
+{
+    match kind {
+        Kind::ReadWrite => registry.lowest_open(),
+        Kind::ReadOnly => registry.lowest_writer(),
     }
 }
 
@@ -35,6 +43,7 @@ fn first_bar(registry: &Registry, c: ConnId, kind: Kind, from: u32) -> Admission
     requires { NoneBarsBelow registry.now.seats c kind from }
     ensures { IsAdmission registry.now.seats c kind result }
 {
+    registry.sound();
     for slot in from..MAX_CONNECTIONS as u32 {
         if let Some(seat) = registry.at(slot)
             && bars(seat, c, kind)
@@ -50,8 +59,8 @@ fn bars(seat: &Seat, c: ConnId, kind: Kind) -> bool
     ensures { result ≡ bars c kind seat.now }
 {
     match seat.transaction {
-        Some(transaction) =>
-            seat.conn != c && (kind == Kind::ReadWrite || transaction.kind == Kind::ReadWrite),
+        Some(transaction) => seat.conn != c
+            && (kind == Kind::ReadWrite || transaction.kind == Kind::ReadWrite),
         None => false,
     }
 }

@@ -65,8 +65,8 @@ kept_set {all} {takers} {takers'} {kept} {kept'} {condemned} {condemned'} {table
     at : (j : ℕ) (seat : Seat) → seat_in (set (seats_of all) i (record_of slot)) j ≡ Some seat → IsSlot takers' condemned'.items serials' j seat
     at j seat there = elim (cases_eq j i) [
       | inl e ↦
-        let here' : record_of slot ≡ Some seat = sym (seat_in_same (seats_of all) i (record_of slot) (subst (λ (n : ℕ). i < n) (sym (length-map all record_of)) lt)) ∙ (ap (seat_in (set (seats_of all) i (record_of slot))) (sym e) ∙ there) in
-        subst (λ (n : ℕ). IsSlot takers' condemned'.items serials' n seat) (sym e) (here seat here')
+          let here' : record_of slot ≡ Some seat = sym (seat_in_same (seats_of all) i (record_of slot) (subst (λ (n : ℕ). i < n) (sym (length-map all record_of)) lt)) ∙ (ap (seat_in (set (seats_of all) i (record_of slot))) (sym e) ∙ there) in
+          subst (λ (n : ℕ). IsSlot takers' condemned'.items serials' n seat) (sym e) (here seat here')
       | inr ne ↦ others j seat ne (sym (seat_in_other (seats_of all) i j (record_of slot) ne) ∙ there)
     ]
 
@@ -79,7 +79,7 @@ pub openings_same :
     → openings (seats_of (set all i slot')) ≡ openings (seats_of all)
 openings_same all i slot slot' at same =
     let there : slice_get (openings (seats_of all)) i ≡ Some (opening_in (record_of slot)) =
-        slice_get-map opening_in (seats_of all) i ∙ ap (option_map opening_in) (slice_get-map record_of all i ∙ ap (option_map record_of) at) in
+    slice_get-map opening_in (seats_of all) i ∙ ap (option_map opening_in) (slice_get-map record_of all i ∙ ap (option_map record_of) at) in
     openings_set all i slot' ∙ (ap (set (openings (seats_of all)) i) same ∙ set_same (openings (seats_of all)) i (opening_in (record_of slot)) there)
 
 -- how many may yet be condemned, after a write of a slot
@@ -111,22 +111,22 @@ kept_opened {all} {takers} {takers'} {kept} {kept'} {condemned} {table} {serials
     let facts = k.seated i slot.seat was in
     let live = live_set all i slot (with_seat slot seat) at in
     let alike : is_live (record_of (with_seat slot seat)) ≡ is_live (record_of slot) =
-        ap is_live (record_held (with_seat slot seat) held) ∙ (ap (λ o. is_none o) like.condemned ∙ sym (ap is_live (record_held slot held))) in
+    ap is_live (record_held (with_seat slot seat) held) ∙ (ap (λ o. is_none o) like.condemned ∙ sym (ap is_live (record_held slot held))) in
     let fewer : count_by is_live (seats_of (set all i (with_seat slot seat))) ≤ condemned.room =
-        let ones : one_if (is_live (record_of (with_seat slot seat))) ≡ one_if (is_live (record_of slot)) = ap one_if alike in let room = k.room in omega (arith, ones, live) in
+    let ones : one_if (is_live (record_of (with_seat slot seat))) ≡ one_if (is_live (record_of slot)) = ap one_if alike in let room = k.room in omega (arith, ones, live) in
     kept_set k i (with_seat slot seat) (slice_get_within all i slot at) same
     (λ j other ne there.
-      let f = k.seated j other there in
-      record { place = f.place; serial = f.serial; condemned = f.condemned; latches = λ class h. others class j other ne there h (f.latches class h) })
+    let f = k.seated j other there in
+    record { place = f.place; serial = f.serial; condemned = f.condemned; latches = λ class h. others class j other ne there h (f.latches class h) })
     (λ other there.
-      let e : seat ≡ other = let two : Some seat ≡ Some other = sym (record_held (with_seat slot seat) held) ∙ there in cc in
-      subst (λ (o : Seat). IsSlot takers' condemned.items serials i o) e
-      (record {
-        place = ap (λ (c : ConnId). c.slot) like.conn ∙ facts.place;
-        serial = subst (λ (c : ConnId). c.serial ≤ serials) (sym like.conn) facts.serial;
-        condemned = like.condemned ∙ (facts.condemned ∙ ap (condemned_in condemned.items) (sym like.conn));
-        latches = here;
-      }))
+    let e : seat ≡ other = let two : Some seat ≡ Some other = sym (record_held (with_seat slot seat) held) ∙ there in cc in
+    subst (λ (o : Seat). IsSlot takers' condemned.items serials i o) e
+    (record {
+      place = ap (λ (c : ConnId). c.slot) like.conn ∙ facts.place;
+      serial = subst (λ (c : ConnId). c.serial ≤ serials) (sym like.conn) facts.serial;
+      condemned = like.condemned ∙ (facts.condemned ∙ ap (condemned_in condemned.items) (sym like.conn));
+      latches = here;
+    }))
     opened fewer k.drawn
 
 -- What is kept where a record changes in what opens no transaction and closes none.
@@ -141,8 +141,8 @@ pub kept_seat :
     → IsKept (set all i (with_seat slot seat)) takers' kept condemned table serials
 kept_seat {all} {kept = kept} k i slot seat at held like same others here opened =
     let e : openings (seats_of (set all i (with_seat slot seat))) ≡ openings (seats_of all) =
-        openings_same all i slot (with_seat slot seat) at
-        (ap opening_in (record_held (with_seat slot seat) held) ∙ (opened ∙ sym (ap opening_in (record_held slot held)))) in
+    openings_same all i slot (with_seat slot seat) at
+    (ap opening_in (record_held (with_seat slot seat) held) ∙ (opened ∙ sym (ap opening_in (record_held slot held)))) in
     kept_opened k i slot seat at held like same others here (subst (λ (o : List (Option Opening)). AreOpenings o kept) (sym e) k.openings)
 
 -- a registry's contents with a change of one record
@@ -173,8 +173,8 @@ roll_of {all} {takers} {kept} {condemned} {table} {serials} k =
       count = length-map all record_of ∙ k.count;
       classes = k.classes;
       seated = λ slot seat there.
-        let f = k.seated slot seat there in
-        record { place = f.place; serial = f.serial; condemned = f.condemned; latches = λ class h. slice_get_within takers class slot (f.latches class h) };
+          let f = k.seated slot seat there in
+          record { place = f.place; serial = f.serial; condemned = f.condemned; latches = λ class h. slice_get_within takers class slot (f.latches class h) };
       one_holder = λ class i j a b first second ha hb. one_slot i j ((sym ((k.seated i a first).latches class ha)) ∙ (k.seated j b second).latches class hb);
       drawn = k.drawn;
       spent = k.spent;
@@ -193,8 +193,8 @@ none_holds {all} {takers} k class taker at none slot seat there =
     let below = bit_at-lt seat.latches class in
     elim (cases_eq (bit_at seat.latches class) 1) [
       | inl holds ↦
-        let same : taker ≡ slot = one_slot taker slot (sym at ∙ (k.seated slot seat there).latches class holds) in
-        absurd (none seat (ap (seat_in (seats_of all)) same ∙ there) holds)
+          let same : taker ≡ slot = one_slot taker slot (sym at ∙ (k.seated slot seat there).latches class holds) in
+          absurd (none seat (ap (seat_in (seats_of all)) same ∙ there) holds)
       | inr not ↦ omega arith
     ]
   where
@@ -229,10 +229,10 @@ latch_here takers i class latches lt before k holds =
     elim (cases_eq k class) [
       | inl same ↦ ap (slice_get (set takers class i)) same ∙ at_set_same takers class i lt
       | inr apart ↦
-        let both : bit_at (with_latch latches class) k ≡ max (bit_at latches k) (bit_at (2 ^ class) k) = bit_at_or latches (2 ^ class) k in
-        let none : bit_at (2 ^ class) k ≡ 0 = bit_at-pow_other class k apart in
-        let one : bit_at latches k ≡ 1 = omega arith in
-        at_set_other takers class k i apart ∙ before k one
+          let both : bit_at (with_latch latches class) k ≡ max (bit_at latches k) (bit_at (2 ^ class) k) = bit_at_or latches (2 ^ class) k in
+          let none : bit_at (2 ^ class) k ≡ 0 = bit_at-pow_other class k apart in
+          let one : bit_at latches k ≡ 1 = omega arith in
+          at_set_other takers class k i apart ∙ before k one
     ]
 
 -- all latches, where no other holds any
@@ -275,7 +275,7 @@ kept_same {all} {all'} {takers} {kept} {condemned} {condemned'} {table} {serials
       count = count ∙ k.count;
       classes = k.classes;
       seated = λ slot seat there.
-        subst (λ (list : List Condemnation). IsSlot takers list serials slot seat) (sym items) (k.seated slot seat (ap (λ (s : Seats). seat_in s slot) (sym seats) ∙ there));
+          subst (λ (list : List Condemnation). IsSlot takers list serials slot seat) (sym items) (k.seated slot seat (ap (λ (s : Seats). seat_in s slot) (sym seats) ∙ there));
       openings = subst (λ (s : Seats). AreOpenings (openings s) kept) (sym seats) k.openings;
       room = omega arith;
       drawn = λ place entry there. k.drawn place entry (ap (λ (list : List Condemnation). slice_get list place) (sym items) ∙ there);
@@ -333,24 +333,24 @@ pub kept_connected :
 kept_connected {all} {takers} {kept} {condemned} {table} {serials} k i slot slot' c at free held new place serial room =
     let record' : record_of slot' ≡ Some slot'.seat = record_held slot' held in
     let same : opening_in (record_of slot') ≡ opening_in (record_of slot) =
-        ap opening_in record' ∙ (ap (option_map opening_of) new.transaction ∙ sym (ap opening_in (record_free slot free))) in
+    ap opening_in record' ∙ (ap (option_map opening_of) new.transaction ∙ sym (ap opening_in (record_free slot free))) in
     let count = k.count in
     let count' = length-set all i slot' in
     let records : length (seats_of (set all i slot')) ≡ length (set all i slot') = length-map (set all i slot') record_of in
     let live = count_by-le-length is_live (seats_of (set all i slot')) in
     kept_set k i slot' (slice_get_within all i slot at) refl
     (λ j seat ne there.
-      let f = k.seated j seat there in
-      record { place = f.place; serial = (let le = f.serial in omega arith); condemned = f.condemned; latches = f.latches })
+    let f = k.seated j seat there in
+    record { place = f.place; serial = (let le = f.serial in omega arith); condemned = f.condemned; latches = f.latches })
     (λ seat there.
-      let e : slot'.seat ≡ seat = let two : Some slot'.seat ≡ Some seat = sym record' ∙ there in cc in
-      subst (λ (s : Seat). IsSlot takers condemned.items (serials + 1) i s) e
-      (record {
-        place = ap (λ (n : ConnId). n.slot) new.conn ∙ place;
-        serial = (let n = ap (λ (n : ConnId). n.serial) new.conn in omega arith);
-        condemned = new.condemned ∙ (sym (not_condemned condemned.items c serials k.drawn (omega arith)) ∙ ap (condemned_in condemned.items) (sym new.conn));
-        latches = λ class holds. no_latch (λ k. slice_get takers k ≡ Some i) class (ap (λ n. bit_at n class) (sym new.latches) ∙ holds);
-      }))
+    let e : slot'.seat ≡ seat = let two : Some slot'.seat ≡ Some seat = sym record' ∙ there in cc in
+    subst (λ (s : Seat). IsSlot takers condemned.items (serials + 1) i s) e
+    (record {
+      place = ap (λ (n : ConnId). n.slot) new.conn ∙ place;
+      serial = (let n = ap (λ (n : ConnId). n.serial) new.conn in omega arith);
+      condemned = new.condemned ∙ (sym (not_condemned condemned.items c serials k.drawn (omega arith)) ∙ ap (condemned_in condemned.items) (sym new.conn));
+      latches = λ class holds. no_latch (λ k. slice_get takers k ≡ Some i) class (ap (λ n. bit_at n class) (sym new.latches) ∙ holds);
+    }))
     (subst (λ (o : List (Option Opening)). AreOpenings o kept) (sym (openings_same all i slot slot' at same)) k.openings)
     (omega (arith, live, records, count, count', room))
     (λ p entry there. let le = k.drawn p entry there in omega arith)
@@ -423,18 +423,18 @@ kept_condemned {all} {takers} {kept} {condemned} {table} {serials} k i slot entr
     let mine : entry.conn.serial ≤ serials = subst (λ (c : ConnId). c.serial ≤ serials) conn facts.serial in
     kept_set k i after (slice_get_within all i slot at) refl
     (λ j seat ne there.
-      let f = k.seated j seat there in
-      let apart : seat.conn.slot ≢ entry.conn.slot = λ e. ne (sym f.place ∙ (e ∙ place)) in
-      record { place = f.place; serial = f.serial; condemned = f.condemned ∙ sym (others_condemned condemned.items entry seat.conn apart); latches = f.latches })
+    let f = k.seated j seat there in
+    let apart : seat.conn.slot ≢ entry.conn.slot = λ e. ne (sym f.place ∙ (e ∙ place)) in
+    record { place = f.place; serial = f.serial; condemned = f.condemned ∙ sym (others_condemned condemned.items entry seat.conn apart); latches = f.latches })
     (λ seat there.
-      let e : after.seat ≡ seat = let two : Some after.seat ≡ Some seat = sym (record_held after held) ∙ there in cc in
-      subst (λ (s : Seat). IsSlot takers (condemned.items ++ entry ∷ []) serials i s) e
-      (record {
-        place = facts.place;
-        serial = facts.serial;
-        condemned = sym (now_condemned condemned.items entry slot.seat.conn (sym conn) (sym none ∙ facts.condemned));
-        latches = facts.latches;
-      }))
+    let e : after.seat ≡ seat = let two : Some after.seat ≡ Some seat = sym (record_held after held) ∙ there in cc in
+    subst (λ (s : Seat). IsSlot takers (condemned.items ++ entry ∷ []) serials i s) e
+    (record {
+      place = facts.place;
+      serial = facts.serial;
+      condemned = sym (now_condemned condemned.items entry slot.seat.conn (sym conn) (sym none ∙ facts.condemned));
+      latches = facts.latches;
+    }))
     (subst (λ (o : List (Option Opening)). AreOpenings o kept) (sym (openings_same all i slot after at (ap opening_in (record_held after held) ∙ sym (ap opening_in (record_held slot held))))) k.openings)
     (omega (arith, live, before_one, after_none, room))
     (in_longer {P = λ e. e.conn.serial ≤ serials} condemned.items entry k.drawn mine)
@@ -478,8 +478,8 @@ kept_none all takers table classes count seats count' few empty = record {
   drawn = λ place entry there. (let no : None ≡ Some entry = there in absurd cc);
   spent = ap length empty ∙ length-replicate slot_count (zeros classes);
   rows = λ slot row there.
-    let same = of_replicate slot_count slot (zeros classes) row (ap (λ (t : List (List ℕ)). slice_get t slot) (sym empty) ∙ there) in
-    ap length (sym same) ∙ (length-replicate classes 0 ∙ sym count');
+      let same = of_replicate slot_count slot (zeros classes) row (ap (λ (t : List (List ℕ)). slice_get t slot) (sym empty) ∙ there) in
+      ap length (sym same) ∙ (length-replicate classes 0 ∙ sym count');
 }
 
 -- a registry's contents with equal records and an equal list

@@ -134,7 +134,7 @@ behind_none : (o : ℕ × ℕ) (ws : List OwnWrite) → NoneBefore o ws → AreO
 behind_none o [] none ordered e = tt
 behind_none o (w ∷ ws) none ordered e =
     let first : precedes o (object_of w) ≡ true =
-        ⊎_elim (λ same. no_test (is_of o w) e (of_itself o w same)) (λ lt. lt) (not_before (object_of w) o none.0) in
+    ⊎_elim (λ same. no_test (is_of o w) e (of_itself o w same)) (λ lt. lt) (not_before (object_of w) o none.0) in
     (first, behind_more o (object_of w) ws first ordered.0)
 
 ordered_take : (i : ℕ) (ws : List OwnWrite) → AreOrdered ws → AreOrdered (take i ws)
@@ -164,6 +164,7 @@ ordered_join o (x ∷ xs) ys ox oy before none =
     behind_all : (ys : List OwnWrite) → NoneBefore o ys → AllBehind (object_of x) ys
     behind_all [] none = tt
     behind_all (y ∷ ys) none = (lt_le (object_of x) o (object_of y) before.0 none.0, behind_all ys none.1)
+
     behind_join : (xs ys : List OwnWrite) → AllBehind (object_of x) xs → AllBehind (object_of x) ys → AllBehind (object_of x) (xs ++ ys)
     behind_join [] ys a b = b
     behind_join (w ∷ ws) ys a b = (a.0, behind_join ws ys a.1 b)

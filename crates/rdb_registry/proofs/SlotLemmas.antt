@@ -131,13 +131,15 @@ pub record FoundAt (all : List Slot) (c : ConnId) (slot : Slot) : Type 0 where
 
 pub found_at : {all : List Slot} {c : ConnId} {seat : Seat} → HeldAt all c seat → (slot : Slot) → slot ≡ get_or all c.slot slot → FoundAt all c slot × (slot.seat ≡ seat)
 found_at {all} {c} {seat} h slot e =
-    let same : slot ≡ h.slot = e ∙ get_or_from_slice_get all c.slot h.slot slot h.at in
-    (record {
-      at = h.at ∙ ap (λ (s : Slot). Some s) (sym same);
-      is_held = ap (λ (s : Slot). s.is_held) same ∙ h.is_held;
-      conn = ap (λ (s : Slot). s.seat.conn) same ∙ (ap (λ (s : Seat). s.conn) h.seat_is ∙ h.conn);
-      own = h.own ∙ ap (λ (s : Seat). Some s) (sym (ap (λ (s : Slot). s.seat) same ∙ h.seat_is));
-    }, ap (λ (s : Slot). s.seat) same ∙ h.seat_is)
+    let same : slot ≡ h.slot = e ∙ get_or_from_slice_get all c.slot h.slot slot h.at in (
+      record {
+        at = h.at ∙ ap (λ (s : Slot). Some s) (sym same);
+        is_held = ap (λ (s : Slot). s.is_held) same ∙ h.is_held;
+        conn = ap (λ (s : Slot). s.seat.conn) same ∙ (ap (λ (s : Seat). s.conn) h.seat_is ∙ h.conn);
+        own = h.own ∙ ap (λ (s : Seat). Some s) (sym (ap (λ (s : Slot). s.seat) same ∙ h.seat_is));
+      },
+      ap (λ (s : Slot). s.seat) same ∙ h.seat_is,
+    )
 
 -- where a connection is held, its slot is one of those that there are
 pub held_within : (all : List Slot) (c : ConnId) → IsHeld (seats_of all) c → c.slot < length all

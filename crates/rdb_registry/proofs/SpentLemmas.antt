@@ -39,11 +39,12 @@ kept_spent {takers = takers} {table = table} k i row row' at same =
   where
     one_row : (a b : List ℕ) → Some a ≡ Some b → a ≡ b
     one_row a b e = cc
+
     rows : (j : ℕ) (r : List ℕ) → slice_get (set table i row') j ≡ Some r → length r ≡ length takers
     rows j r there = elim (cases_eq j i) [
       | inl e ↦
-        let mine : row' ≡ r = one_row row' r (sym (at_set_same table i row' (slice_get_within table i row at)) ∙ (ap (slice_get (set table i row')) (sym e) ∙ there)) in
-        ap length (sym mine) ∙ (same ∙ k.rows i row at)
+          let mine : row' ≡ r = one_row row' r (sym (at_set_same table i row' (slice_get_within table i row at)) ∙ (ap (slice_get (set table i row')) (sym e) ∙ there)) in
+          ap length (sym mine) ∙ (same ∙ k.rows i row at)
       | inr ne ↦ k.rows j r (sym (at_set_other table i j row' ne) ∙ there)
     ]
 

@@ -16,7 +16,11 @@ impl Registry {
         ensures none { IfNone result (NoneHolds self.now.seats class) }
     {
         let seat = self.at(self.takers[class as usize])?;
-        if (seat.latches >> class) & 1 == 1 { Some(seat.conn) } else { None }
+        if (seat.latches >> class) & 1 == 1 {
+            Some(seat.conn)
+        } else {
+            None
+        }
     }
 
     /// Takes the latch of a class for a connection, where no other holds it. The cost is constant.
@@ -54,5 +58,9 @@ fn all_latches(classes: u32) -> u64
     requires { classes ≤ max_classes }
     ensures { result ≡ all_latches classes }
 {
-    if classes == 0 { 0 } else { u64::MAX >> (u64::BITS - classes) }
+    if classes == 0 {
+        0
+    } else {
+        u64::MAX >> (u64::BITS - classes)
+    }
 }

@@ -93,7 +93,11 @@ fn find(writes: &[OwnWrite], class: u32, id: u64) -> Result<usize, usize>
     ensures err { IfErr result (IsGap (class, id) writes.now) }
 {
     let place = place_of(writes, class, id);
-    if is_at(writes, place, class, id) { Ok(place) } else { Err(place) }
+    if is_at(writes, place, class, id) {
+        Ok(place)
+    } else {
+        Err(place)
+    }
 }
 
 impl OwnWrites {

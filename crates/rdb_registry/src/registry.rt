@@ -50,11 +50,11 @@ impl Model for Registry {
     ghost Value = { Roll };
 
     ghost view = { λ r. record {
-        classes = length r.takers.items;
-        seats = seats_of r.slots.items;
-        condemned = r.condemned.items;
-        spent = map (λ row. row.items) r.spent.items;
-        serials = r.serials
+      classes = length r.takers.items;
+      seats = seats_of r.slots.items;
+      condemned = r.condemned.items;
+      spent = map (λ row. row.items) r.spent.items;
+      serials = r.serials;
     } };
 
     ghost invariant = { λ r. IsKept r.slots.items r.takers.items r.openings r.condemned (map (λ row. row.items) r.spent.items) r.serials };
@@ -65,11 +65,11 @@ impl Registry {
     pub fn new(alloc: Global, classes: u32) -> Result<Registry, NoMemory>
         requires { classes ≤ max_classes }
         ensures { IfOk result (λ r. r ≡ record {
-            classes = classes;
-            seats = replicate slot_count None;
-            condemned = [];
-            spent = replicate slot_count (replicate classes 0);
-            serials = 0
+          classes = classes;
+          seats = replicate slot_count None;
+          condemned = [];
+          spent = replicate slot_count (replicate classes 0);
+          serials = 0;
         }) }
     {
         Ok(Registry {
@@ -170,8 +170,8 @@ impl Registry {
     pub fn condemn(&mut self, d: ConnId, by: ConnId, at: u64)
         requires { IsSomeAnd (seat_of self.old.seats d) (λ seat. seat.condemned ≡ None) }
         ensures { self.new ≡ record self.old {
-            seats = changed self.old.seats d.slot (with_condemned (record { by = by; at = at }));
-            condemned = self.old.condemned ++ record { conn = d; condemned = record { by = by; at = at } } ∷ []
+          seats = changed self.old.seats d.slot (with_condemned (record { by = by; at = at }));
+          condemned = self.old.condemned ++ record { conn = d; condemned = record { by = by; at = at } } ∷ [];
         } }
     {
         let condemned = Condemned { by, at };
@@ -196,7 +196,7 @@ impl Registry {
         requires class { class < self.old.classes }
         requires fits { spent_by self.old.spent slot class + claim < 2 ^ 64 }
         ensures { self.new ≡ record self.old {
-            spent = with_spent self.old.spent slot class (spent_by self.old.spent slot class + claim)
+          spent = with_spent self.old.spent slot class (spent_by self.old.spent slot class + claim);
         } }
     {
         let row = &mut self.spent[slot as usize];

@@ -23,15 +23,18 @@ fn a_33rd_connection_waits_for_a_free_slot(rt: HostRuntime) -> Result<(), Fail> 
         assert_eq!(rt; next_slot(&mut registry), Ok(slot));
     }
     assert_eq!(rt; next_slot(&mut registry), Err(32));
-    let c = ConnId {
-        slot: 7,
-        serial: 8,
-    };
+    let c = ConnId { slot: 7, serial: 8 };
     assert!(rt; registry.is_held(c));
     registry.free(c);
     assert!(rt; !registry.is_held(c));
     assert!(rt; registry.at(7).is_none());
-    assert_eq!(rt; registry.connect(), Ok(ConnId { slot: 7, serial: 33 }));
+    assert_eq!(rt;
+        registry.connect(),
+        Ok(ConnId {
+            slot: 7,
+            serial: 33
+        })
+    );
     Ok(())
 }
 

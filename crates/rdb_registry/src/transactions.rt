@@ -43,7 +43,11 @@ impl Slot {
     fn transaction(&self) -> Option<Transaction>
         ensures { result ≡ transaction_in (record_of self.now) }
     {
-        if self.is_held { self.seat.transaction } else { None }
+        if self.is_held {
+            self.seat.transaction
+        } else {
+            None
+        }
     }
 }
 
@@ -196,6 +200,10 @@ impl Registry {
         ensures { result ≡ mark_of self.now.seats tx }
     {
         let transaction = self.seat(tx.conn)?.transaction?;
-        if transaction.number == tx.number { transaction.mark } else { None }
+        if transaction.number == tx.number {
+            transaction.mark
+        } else {
+            None
+        }
     }
 }

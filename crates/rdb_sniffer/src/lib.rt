@@ -1,8 +1,8 @@
 //! What the repair of a connection's unfinished work does next. It touches nothing.
 #![tactic(auto)]
 
-mod next_thing;
+mod repair;
 #[cfg(test)]
 mod tests;
 
-pub use next_thing::{Thing, next_thing};
+pub use repair::{Thing, next_thing};

@@ -6,5 +6,5 @@ use Rattle.rdb_registry.proofs.registry.free_slots.Given as goal
 abbrev pub invariant-loop : goal.invariant-loop
 invariant-loop l = record {
   count : length l.all.items ≡ l.counter;
-  free : seats_of l.all.items ≡ replicate l.counter None
+  free : seats_of l.all.items ≡ replicate l.counter None;
 }

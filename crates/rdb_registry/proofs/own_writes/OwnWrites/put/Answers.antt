@@ -45,9 +45,9 @@ returns-in-Err-clause-others c =
     let g = subst (λ (ws : List OwnWrite). IsGap (c.args.class, c.args.id) ws c.in-Err.place) c.deref.ensures.value c.in-Err.ensures.err in
     let write : OwnWrite = record { class = c.args.class; id = c.args.id; header = c.args.header } in
     λ object ne.
-      ap (λ (r : Reserved OwnWrite). header_of r.items object) c.insert.ensures
-      ∙ subst (λ (r : Reserved OwnWrite). header_of (insert r.items c.in-Err.place write) object ≡ header_of r.items object) c.self.view_is
-        (others_come c.self.inside.writes.items g write refl object ne)
+    ap (λ (r : Reserved OwnWrite). header_of r.items object) c.insert.ensures
+    ∙ subst (λ (r : Reserved OwnWrite). header_of (insert r.items c.in-Err.place write) object ≡ header_of r.items object) c.self.view_is
+    (others_come c.self.inside.writes.items g write refl object ne)
 
 pub returns-in-Err-clause-room : goal.returns-in-Err-clause-room
 returns-in-Err-clause-room c =

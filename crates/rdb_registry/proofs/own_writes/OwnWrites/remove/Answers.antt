@@ -23,8 +23,8 @@ pub returns-in-Ok-clause-others : goal.returns-in-Ok-clause-others
 returns-in-Ok-clause-others c =
     let p = subst (λ (ws : List OwnWrite). IsPlace (c.args.class, c.args.id) ws c.in-Ok.place) c.deref.ensures.value c.in-Ok.ensures.ok in
     λ object ne.
-      ap (λ (ws : List OwnWrite). header_of ws object) (c.remove.ensures.items ∙ remove_is c.in-Ok.place c.self.inside.writes.items)
-      ∙ (sym (others_gone c.self.inside.writes.items p object ne) ∙ ap (λ (r : Reserved OwnWrite). header_of r.items object) c.self.view_is)
+    ap (λ (ws : List OwnWrite). header_of ws object) (c.remove.ensures.items ∙ remove_is c.in-Ok.place c.self.inside.writes.items)
+    ∙ (sym (others_gone c.self.inside.writes.items p object ne) ∙ ap (λ (r : Reserved OwnWrite). header_of r.items object) c.self.view_is)
 
 pub returns-in-Err-clause-here : goal.returns-in-Err-clause-here
 returns-in-Err-clause-here c =

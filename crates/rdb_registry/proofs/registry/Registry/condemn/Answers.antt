@@ -32,7 +32,7 @@ invariant_of-self c =
     let f = found_at h c.index_mut.result.now c.index_mut.ensures.value in
     rw c.append.ensures
     (kept_condemned c.self.invariant c.args.d.slot c.index_mut.result.now (record { conn = c.args.d; condemned = record { by = c.args.by; at = c.args.at } }) f.0.at f.0.is_held
-      (ap (λ (s : Seat). s.condemned) f.1 ∙ there.1.1) f.0.conn refl)
+    (ap (λ (s : Seat). s.condemned) f.1 ∙ there.1.1) f.0.conn refl)
 
 pub returns : goal.returns
 returns c =
@@ -42,5 +42,5 @@ returns c =
     let what : Condemned = record { by = c.args.by; at = c.args.at } in
     rw c.append.ensures
     (told_by _ _ _ (λ (r : Roll). record r { seats = changed r.seats c.args.d.slot (with_condemned what); condemned = r.condemned ++ record { conn = c.args.d; condemned = what } ∷ [] }) c.self.view_is
-      (ap (λ (s : Seats). record (the_view c.self.inside) { seats = s; condemned = c.self.inside.condemned.items ++ record { conn = c.args.d; condemned = what } ∷ [] })
-        (changed_is c.self.inside.slots.items c.args.d.slot c.index_mut.result.now (with_condemned what) f.at f.is_held)))
+    (ap (λ (s : Seats). record (the_view c.self.inside) { seats = s; condemned = c.self.inside.condemned.items ++ record { conn = c.args.d; condemned = what } ∷ [] })
+    (changed_is c.self.inside.slots.items c.args.d.slot c.index_mut.result.now (with_condemned what) f.at f.is_held)))

@@ -44,8 +44,8 @@ pub returns-clause-ok : goal.returns-clause-ok
 returns-clause-ok c =
     let first = sym (subst (λ (all : List Slot). Some c.in-Some.slot ≡ position is_none (seats_of all)) c.deref.ensures.value c.in-Some.ensures) in
     let seats =
-        seats_of_set c.self.inside.slots.items c.in-Some.slot c.connect.new.self
-        ∙ ap (set (seats_of c.self.inside.slots.items) c.in-Some.slot) (record_held c.connect.new.self c.in_ok-connect.ensures.ok.0) in
+    seats_of_set c.self.inside.slots.items c.in-Some.slot c.connect.new.self
+    ∙ ap (set (seats_of c.self.inside.slots.items) c.in-Some.slot) (record_held c.connect.new.self c.in_ok-connect.ensures.ok.0) in
     let items = c.make_room.ensures.items in
     let after = roll_after (the_view c.self.inside) _ _ _ (c.self.inside.serials + 1) seats items in
     connects_is _ _ _ _ c.self.view_is

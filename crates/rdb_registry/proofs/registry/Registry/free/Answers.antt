@@ -20,4 +20,4 @@ pub returns : goal.returns
 returns c =
     told_by _ _ _ (λ (r : Roll). record r { seats = set r.seats c.args.c.slot None }) c.self.view_is
     (ap (λ (s : Seats). record (the_view c.self.inside) { seats = s })
-      (seats_of_set c.self.inside.slots.items c.args.c.slot c.free.new.self ∙ ap (set (seats_of c.self.inside.slots.items) c.args.c.slot) (record_free c.free.new.self c.free.ensures)))
+    (seats_of_set c.self.inside.slots.items c.args.c.slot c.free.new.self ∙ ap (set (seats_of c.self.inside.slots.items) c.args.c.slot) (record_free c.free.new.self c.free.ensures)))

@@ -37,9 +37,9 @@ returns-else-seat-class-eq1-clause-none c =
     let taker = slice_get_read c.self.inside.takers.items _ c.args.class c.index.result.now refl class c.index.ensures in
     let found = subst (λ (r : Roll). Some c.in_ok-seat.seat.now ≡ seat_in r.seats c.index.result.now) (sym c.self.view_is) c.in_ok-seat.ensures in
     let none = none_holds c.self.invariant c.args.class c.index.result.now taker
-        (λ seat there holds.
-          let same = one_seat c.in_ok-seat.seat.now seat (found ∙ there) in
-          c.if-seat-class-eq1.false (shr_and_one c.in_ok-seat.seat.now.latches c.args.class ∙ (ap (λ (s : Seat). bit_at s.latches c.args.class) same ∙ holds))) in
+    (λ seat there holds.
+    let same = one_seat c.in_ok-seat.seat.now seat (found ∙ there) in
+    c.if-seat-class-eq1.false (shr_and_one c.in_ok-seat.seat.now.latches c.args.class ∙ (ap (λ (s : Seat). bit_at s.latches c.args.class) same ∙ holds))) in
     subst (λ (r : Roll). NoneHolds r.seats c.args.class) c.self.view_is none
   where
     one_seat : (a b : Seat) → Some a ≡ Some b → a ≡ b

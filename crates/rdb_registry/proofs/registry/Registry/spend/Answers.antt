@@ -26,7 +26,7 @@ returns c =
     let class : c.args.class < length c.self.inside.takers.items = subst (λ (r : Roll). c.args.class < r.classes) (sym c.self.view_is) c.requires.class in
     let sum = sum_at (map row_items c.self.inside.spent.items) c.args.slot c.args.class c.index_mut-row.result.now.items c.index_mut.result.now at (omega (arith, rows, class)) c.index_mut.ensures.value in
     let table =
-        map-set row_items c.self.inside.spent.items c.args.slot (with_item c.index_mut-row.result.now c.args.class (c.index_mut.result.now + c.args.claim))
-        ∙ spent_set (map row_items c.self.inside.spent.items) c.args.slot c.args.class c.index_mut-row.result.now.items c.index_mut.result.now c.args.claim at sum in
+    map-set row_items c.self.inside.spent.items c.args.slot (with_item c.index_mut-row.result.now c.args.class (c.index_mut.result.now + c.args.claim))
+    ∙ spent_set (map row_items c.self.inside.spent.items) c.args.slot c.args.class c.index_mut-row.result.now.items c.index_mut.result.now c.args.claim at sum in
     told_by _ _ _ (λ (r : Roll). record r { spent = with_spent r.spent c.args.slot c.args.class (spent_by r.spent c.args.slot c.args.class + c.args.claim) }) c.self.view_is
     (ap (λ (t : List (List ℕ)). record (the_view c.self.inside) { spent = t }) table)

@@ -20,9 +20,9 @@ invariant_of-self c =
     let same : n ≡ length c.self.inside.takers.items = omega (arith, c.self.inside.takers.ok.0) in
     rw (takers, latches)
     (kept_seat {takers' = replicate n c.args.c.slot} c.self.invariant c.args.c.slot c.index_mut.result.now (with_latches (all_latches n) c.index_mut.result.now.seat)
-      f.at f.is_held (record { conn = refl; condemned = refl }) (length-replicate n c.args.c.slot ∙ same)
-      (λ class j other ne there holds taken. all_others (seats_of c.self.inside.slots.items) (replicate n c.args.c.slot) c.args.c.slot free class j other ne there holds)
-      (all_here n c.args.c.slot) refl)
+    f.at f.is_held (record { conn = refl; condemned = refl }) (length-replicate n c.args.c.slot ∙ same)
+    (λ class j other ne there holds taken. all_others (seats_of c.self.inside.slots.items) (replicate n c.args.c.slot) c.args.c.slot free class j other ne there holds)
+    (all_here n c.args.c.slot) refl)
 
 pub returns : goal.returns
 returns c =
@@ -34,5 +34,5 @@ returns c =
     let latches : c.all_latches.result ≡ all_latches (length c.self.inside.takers.items) = c.all_latches.ensures ∙ ap all_latches (c.len.ensures ∙ same) in
     rw latches
     (told_by _ _ _ (λ (r : Roll). record r { seats = changed r.seats c.args.c.slot (with_latches (all_latches r.classes)) }) c.self.view_is
-      (roll_is (the_view c.self.inside) _ _ (ap length takers ∙ (length-replicate n c.args.c.slot ∙ same)) _
-        (changed_is c.self.inside.slots.items c.args.c.slot c.index_mut.result.now (with_latches (all_latches (length c.self.inside.takers.items))) f.at f.is_held)))
+    (roll_is (the_view c.self.inside) _ _ (ap length takers ∙ (length-replicate n c.args.c.slot ∙ same)) _
+    (changed_is c.self.inside.slots.items c.args.c.slot c.index_mut.result.now (with_latches (all_latches (length c.self.inside.takers.items))) f.at f.is_held)))

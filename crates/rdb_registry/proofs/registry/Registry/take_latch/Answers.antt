@@ -38,10 +38,10 @@ invariant_of-self c =
     let bit = one_shl c.args.class 64 (omega arith) in
     rw bit
     (kept_seat {takers' = set c.self.inside.takers.items c.args.class c.args.c.slot} c.self.invariant c.args.c.slot c.index_mut-2.result.now (add_latch c.args.class c.index_mut-2.result.now.seat)
-      f.at f.is_held (record { conn = refl; condemned = refl }) (length-set c.self.inside.takers.items c.args.class c.args.c.slot)
-      (latch_others (seats_of c.self.inside.slots.items) c.self.inside.takers.items c.args.c.slot c.args.class free)
-      (latch_here c.self.inside.takers.items c.args.c.slot c.args.class c.index_mut-2.result.now.seat.latches class
-        (latches_of c.self.invariant c.args.c.slot c.index_mut-2.result.now f.at f.is_held)) refl)
+    f.at f.is_held (record { conn = refl; condemned = refl }) (length-set c.self.inside.takers.items c.args.class c.args.c.slot)
+    (latch_others (seats_of c.self.inside.slots.items) c.self.inside.takers.items c.args.c.slot c.args.class free)
+    (latch_here c.self.inside.takers.items c.args.c.slot c.args.class c.index_mut-2.result.now.seat.latches class
+    (latches_of c.self.invariant c.args.c.slot c.index_mut-2.result.now f.at f.is_held)) refl)
 
 pub returns : goal.returns
 returns c =
@@ -52,5 +52,5 @@ returns c =
     let bit = one_shl c.args.class 64 (omega arith) in
     rw bit
     (told_by _ _ _ (λ (r : Roll). record r { seats = changed r.seats c.args.c.slot (add_latch c.args.class) }) c.self.view_is
-      (roll_is (the_view c.self.inside) _ _ (length-set c.self.inside.takers.items c.args.class c.args.c.slot) _
-        (changed_is c.self.inside.slots.items c.args.c.slot c.index_mut-2.result.now (add_latch c.args.class) f.at f.is_held)))
+    (roll_is (the_view c.self.inside) _ _ (length-set c.self.inside.takers.items c.args.class c.args.c.slot) _
+    (changed_is c.self.inside.slots.items c.args.c.slot c.index_mut-2.result.now (add_latch c.args.class) f.at f.is_held)))

@@ -1,7 +1,7 @@
 //! The next step of a repair, by the record of the connection that is repaired.
 
 ghost use Rattle.std.specs.Prelude.{◌≡◌, Some, find};
-ghost use Rattle.rdb_sniffer.specs.Things.{in_order, applies, is_marked, is_drop_planned, has_plan, has_undo};
+ghost use Rattle.rdb_sniffer.specs.Things.{in_order, applies, needs_stamp, needs_release, is_marked, is_drop_planned, has_plan, has_undo};
 
 use rdb_cells::HasPairs;
 use rdb_registry::{Hand, Seat};
@@ -28,20 +28,33 @@ pub enum Thing {
 pub fn next_thing(seat: &Seat, left: bool) -> Thing
     ensures { find (applies seat.now left) in_order ≡ Some result }
 {
-    let hand = &seat.hand;
-    if left && is_marked(seat) {
+    if needs_stamp(seat, left) {
         Thing::Stamp
-    } else if is_drop_planned(hand) {
+    } else if is_drop_planned(&seat.hand) {
         Thing::GoOn
-    } else if has_undo(hand) {
+    } else if has_undo(&seat.hand) {
         Thing::TakeBack
-    } else if has_plan(hand) || seat.latches != 0 {
+    } else if needs_release(seat) {
         Thing::Release
     } else if left {
         Thing::PlanDrop
     } else {
         Thing::Close
     }
+}
+
+// Whether a version of a marked transaction is to be stamped.
+fn needs_stamp(seat: &Seat, left: bool) -> bool
+    ensures { result ≡ needs_stamp seat.now left }
+{
+    is_marked(seat) && left
+}
+
+// Whether a plan or latches are to be given up.
+fn needs_release(seat: &Seat) -> bool
+    ensures { result ≡ needs_release seat.now }
+{
+    has_plan(&seat.hand) || seat.latches != 0
 }
 
 // Whether its transaction is open and marked.
