@@ -3,3 +3,4 @@ pub mod KeptLemmas
 pub mod OpeningLemmas
 pub mod SpentLemmas
 pub mod OwnLemmas
+pub mod RecordLaws

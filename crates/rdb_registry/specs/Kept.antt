@@ -34,7 +34,9 @@ pub record IsSlot (takers : List ℕ) (list : List Condemnation) (serials slot :
   pub latches : (class : ℕ) → HoldsLatch seat class → slice_get takers class ≡ Some slot
 
 -- The slots and what stands beside them agree, and there is room to condemn each connection that wasn't.
-pub record IsKept (all : List Slot) (takers : List ℕ) (kept : Openings) (condemned : Reserved Condemnation) (table : List (List ℕ)) (serials : ℕ) : Type 0 where
+pub record IsKept
+    (all : List Slot) (takers : List ℕ) (kept : Openings) (condemned : Reserved Condemnation) (table : List (List ℕ)) (serials : ℕ)
+    : Type 0 where
   pub count : length all ≡ slot_count
   pub classes : length takers ≤ max_classes
   pub seated : EachSeat (IsSlot takers condemned.items serials) (seats_of all)

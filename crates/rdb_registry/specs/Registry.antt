@@ -30,7 +30,9 @@ with_spent spent slot class sum = slice_set spent slot (slice_set (slice_index_o
 pub record Connects (before after : Roll) (c : ConnId) : Type 0 where
   pub slot : IsLowestFree before.seats c.slot
   pub serial : c.serial ≡ before.serials + 1
-  pub seat : (seat : Seat) × IsNew c seat × (after ≡ record before { seats = slice_set before.seats c.slot (Some seat); serials = before.serials + 1 })
+  pub seat :
+      (seat : Seat) × IsNew c seat
+      × (after ≡ record before { seats = slice_set before.seats c.slot (Some seat); serials = before.serials + 1 })
 
 -- What is so of the record in a slot: it names that slot, its serial was drawn, the list says by whom it was condemned, if it was, and
 -- its latches are of classes that there are.
@@ -46,7 +48,8 @@ pub record IsRoll (roll : Roll) : Type 0 where
   pub classes : roll.classes ≤ max_classes
   pub seated : EachSeat (IsSeated roll) roll.seats
   pub one_holder :
-      (class i j : ℕ) (a b : Seat) → seat_in roll.seats i ≡ Some a → seat_in roll.seats j ≡ Some b → HoldsLatch a class → HoldsLatch b class → i ≡ j
+      (class i j : ℕ) (a b : Seat) → seat_in roll.seats i ≡ Some a → seat_in roll.seats j ≡ Some b
+      → HoldsLatch a class → HoldsLatch b class → i ≡ j
   pub drawn : (place : ℕ) (entry : Condemnation) → slice_get roll.condemned place ≡ Some entry → entry.conn.serial ≤ roll.serials
   pub spent : length roll.spent ≡ slot_count
   pub rows : (slot : ℕ) (row : List ℕ) → slice_get roll.spent slot ≡ Some row → length row ≡ roll.classes

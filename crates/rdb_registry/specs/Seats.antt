@@ -57,7 +57,8 @@ IsLowestFree seats slot = position is_none seats ≡ Some slot
 abbrev pub AllHeld : Seats → Type 0
 AllHeld seats = position is_none seats ≡ None
 
--- a record as it is made: of a connection that has begun nothing, holds nothing and wasn't condemned, with room for an undo record and a plan
+-- A record as it is made: its connection has begun nothing, holds nothing and wasn't condemned, and has room for an undo record
+-- and a plan.
 pub record IsNew (c : ConnId) (seat : Seat) : Type 0 where
   pub conn : seat.conn ≡ c
   pub begun : seat.begun ≡ 0
@@ -120,10 +121,14 @@ mark_if number t = if t.number == number then t.mark else None
 abbrev pub mark_of : Seats → TxId → Option ℕ
 mark_of seats tx = option_and_then (mark_if tx.number) (transaction_in (seat_of seats tx.conn))
 
+-- the transaction that begins as one of a number
+abbrev pub beginning : ℕ → Kind → ℕ → ℕ → Transaction
+beginning number kind begun snapshot = record { number = number; kind = kind; begun = begun; snapshot = snapshot; mark = None }
+
 -- the record with a transaction that begins
 abbrev pub with_begun : Kind → ℕ → ℕ → Seat → Seat
 with_begun kind begun snapshot seat =
-    record seat { begun = seat.begun + 1; transaction = Some (record { number = seat.begun + 1; kind = kind; begun = begun; snapshot = snapshot; mark = None }) }
+    record seat { begun = seat.begun + 1; transaction = Some (beginning (seat.begun + 1) kind begun snapshot) }
 
 -- the transaction with its mark
 abbrev pub marked : ℕ → Transaction → Transaction

@@ -38,7 +38,8 @@ impl Model for OwnWrites {
 
     ghost view = { λ o. record { items = o.writes.items; room = o.room } };
 
-    ghost invariant = { λ o. (vec_len o.writes + o.room ≤ vec_capacity o.writes) × (vec_len o.writes + o.room ≤ MAX_PLACES) × AreOrdered o.writes.items };
+    ghost invariant = { λ o.
+        (vec_len o.writes + o.room ≤ vec_capacity o.writes) × (vec_len o.writes + o.room ≤ MAX_PLACES) × AreOrdered o.writes.items };
 }
 
 // Whether a write is of an object before another.
