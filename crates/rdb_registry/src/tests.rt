@@ -1,8 +1,10 @@
 //! Connections of a small registry, their transactions and latches, and own writes.
 
-ghost use Rattle.std.specs.Prelude.{◌≡◌, ◌<◌, is_some};
+ghost use Rattle.std.specs.Prelude.{◌≡◌, ◌+◌, ◌^◌, ◌<◌, None, IsSomeAnd};
+ghost use Rattle.std.specs.Bool.{OnTrue};
+ghost use Rattle.rdb_registry.specs.Seats.{seat_of};
 
-use crate::{Condemned, ConnectFault, OwnWrites, Registry};
+use crate::{Condemned, ConnectFault, OwnWrites, Registry, Seat};
 use rdb_base::identity::{ConnId, Kind, TxId};
 use rdb_pages::CellRef;
 use std::test::Fail;
@@ -56,5 +58,68 @@ fn own_writes_stand_in_order_each_once(rt: HostRuntime) -> Result<(), Fail> {
     assert_eq!(rt; own.get(1, 1), Some(CellRef { number: 12 }));
     own.clear();
     assert_eq!(rt; own.room(), 4);
+    Ok(())
+}
+
+// Whether nothing is open in a record, and its connection wasn't condemned.
+fn is_idle(seat: &Seat) -> bool
+    ensures closed { OnTrue result (seat.now.transaction ≡ None) }
+    ensures count { OnTrue result (seat.now.begun + 1 < 2 ^ 64) }
+    ensures live { OnTrue result (seat.now.condemned ≡ None) }
+{
+    seat.transaction.is_none() && seat.begun < 100 && seat.condemned.is_none()
+}
+
+// Whether a connection is held, nothing is open in its record, and it wasn't condemned.
+fn may_begin(registry: &Registry, c: ConnId) -> bool
+    ensures closed { OnTrue result (IsSomeAnd (seat_of registry.now.seats c) (λ seat. seat.transaction ≡ None)) }
+    ensures count { OnTrue result (IsSomeAnd (seat_of registry.now.seats c) (λ seat. seat.begun + 1 < 2 ^ 64)) }
+    ensures live { OnTrue result (IsSomeAnd (seat_of registry.now.seats c) (λ seat. seat.condemned ≡ None)) }
+{
+    match registry.seat(c) {
+        Some(seat) => is_idle(seat),
+        None => false,
+    }
+}
+
+#[test]
+fn what_is_kept_beside_the_records_follows_them(rt: HostRuntime) -> Result<(), Fail> {
+    let mut registry = Registry::new(rt.alloc(), 2)?;
+    let first = registry.connect()?;
+    let second = registry.connect()?;
+    assert!(rt; may_begin(&registry, second));
+    registry.begin(second, Kind::ReadWrite, 3, 2);
+    assert_eq!(rt; registry.lowest_writer(), Some(1));
+    assert!(rt; may_begin(&registry, first));
+    registry.begin(first, Kind::ReadOnly, 4, 3);
+    assert_eq!(rt; registry.lowest_open(), Some(0));
+    assert_eq!(rt; registry.least_snapshot(), Some(2));
+    let tx = TxId {
+        conn: first,
+        number: 1,
+    };
+    assert_eq!(rt; registry.mark_of(tx), None);
+    assert_eq!(rt; registry.classes(), 2);
+    assert_eq!(rt; registry.holder(1), None);
+    assert_eq!(rt; registry.spent(1, 0), 0);
+    registry.spend(1, 0, 7);
+    assert_eq!(rt; registry.spent(1, 0), 7);
+    Ok(())
+}
+
+#[test]
+fn the_condemned_are_remembered(rt: HostRuntime) -> Result<(), Fail> {
+    let mut registry = Registry::new(rt.alloc(), 1)?;
+    let first = registry.connect()?;
+    let second = registry.connect()?;
+    assert!(rt; may_begin(&registry, second));
+    registry.condemn(second, first, 9);
+    assert!(rt; registry.is_held(second));
+    registry.free(second);
+    assert_eq!(rt;
+        registry.condemned(second),
+        Some(Condemned { by: first, at: 9 })
+    );
+    assert_eq!(rt; registry.condemned(first), None);
     Ok(())
 }
