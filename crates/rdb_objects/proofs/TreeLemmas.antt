@@ -159,3 +159,28 @@ ending_all path id others long small ends =
     let below : ending path others < 8 ^ (length path + 0) = subst (λ (n : ℕ). ending path others < 8 ^ n) (sym whole) (subst (λ (n : ℕ). n < 8 ^ 22) ends wide) in
     let none = ending_small path 0 others below in
     omega arith
+
+module _ (image : Image) (class : ℕ) (slots : List Slot) (tree : AreSlots image class slots) where
+  too_deep : (place : ℕ) (path : Path) (s a : Slot) → IsOneOf slots s → IsOneOf slots a → s.path ≡ place ∷ path → a.path ≡ path → length path ≡ 22 → ⊥
+  too_deep place path s a one also at above long =
+      let below = tree.each s one in
+      let over = tree.each a also in
+      let mine : s.id ≡ ending path (place + slot_children * below.ends.0) = below.ends.1 ∙ ap (λ (p : Path). ending p below.ends.0) at in
+      let its : a.id ≡ ending path over.ends.0 = over.ends.1 ∙ ap (λ (p : Path). ending p over.ends.0) above in
+      let first = ending_all path s.id (place + slot_children * below.ends.0) long below.small mine in
+      let second = ending_all path a.id over.ends.0 long over.small its in
+      let same = same_id image class slots tree s a one also (mine ∙ ap (ending path) (first ∙ sym second) ∙ sym its) in
+      let paths : place ∷ path ≡ path = sym at ∙ ap (λ (x : Slot). x.path) same ∙ above in
+      let lengths : suc (length path) ≡ length path = ap (λ (p : Path). length p) paths in
+      absurd (omega arith)
+
+  -- a slot has at most 22 places on its path
+  pub depth : (path : Path) (s : Slot) → IsOneOf slots s → s.path ≡ path → length path ≤ 22
+  depth [] s one at = omega arith
+  depth (place ∷ path) s one at =
+      let above = subst (HasAbove slots) at (tree.each s one).above in
+      let shorter = depth path above.1.0 above.1.1 above.1.2 in
+      elim (which (length path) 22) [
+        | inl full ↦ absurd (too_deep place path s above.1.0 one above.1.1 at above.1.2 full)
+        | inr apart ↦ omega arith
+      ]

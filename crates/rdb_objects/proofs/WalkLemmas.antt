@@ -1,16 +1,20 @@
 -- Walks down the tree: towards an id, and to a leaf.
 use Rattle.std.proofs.Common.{◌≡◌, ◌≢◌, ◌<◌, ◌≤◌, ◌+◌, ◌*◌, ◌/◌, ◌%◌, ◌^◌, ◌⊎◌, ◌++◌, zero, suc, ℕ, List, [], ◌∷◌, length, slice_get, Option, Some, IsSome, inl, inr, refl, sym, ap, subst, ◌∙◌, arith, rules}
 use Rattle.std.proofs.lemmas.List.{append-nil, append_assoc}
+use Rattle.std.proofs.Permutation.{which}
+use Rattle.std.specs.Option.{option_map_or}
 use Rattle.rdb_pages.specs.declared.cell.Cell.{Cell}
 use Rattle.rdb_pages.specs.declared.cell.CellRef.{CellRef}
 use Rattle.rdb_cells.specs.HeadFormat.{class_head_in}
 use Rattle.rdb_cells.specs.Images.{Image, IsCell}
 use Rattle.rdb_cells.specs.ObjectFormat.{slot_in, slot_children}
 use Rattle.rdb_cells.specs.References.{class_head_ref}
+use Rattle.rdb_cells.specs.Words.{no_ref, ref_in}
+use Rattle.rdb_cells.proofs.FormatLemmas.{child_there}
 use Rattle.rdb_objects.specs.declared.tree.Spot.{Spot}
 use Rattle.rdb_objects.specs.Slots.{Path, Slot, ending, cells_of, IsOneOf, HasSlot, Leads, HasAbove, IsSlotAt, IsRooted, AreSlots}
-use Rattle.rdb_objects.specs.Walks.{IsLedTo, IsSpot, HasNone, IsFound}
-use Rattle.rdb_objects.proofs.TreeLemmas.{same_cell, one_cell, here_is, one_path, same_path, ancestor, led_slot, no_slot, ending_append, ending_one, ending_all}
+use Rattle.rdb_objects.specs.Walks.{IsLedTo, IsSpot, HasNone, IsFound, IsLeafBelow, IsChildAt, HasNoChildBelow}
+use Rattle.rdb_objects.proofs.TreeLemmas.{same_cell, one_cell, here_is, one_path, same_path, ancestor, depth, led_slot, no_slot, ending_append, ending_one, ending_all}
 
 -- how far a walk towards an id has come
 pub record IsSought (slots : List Slot) (id count digits : ℕ) (spot : Spot) : Type 0 where
@@ -160,3 +164,67 @@ module _ (image : Image) (class : ℕ) (slots : List Slot) (tree : AreSlots imag
                     so_far.ends ∙ ap (ending so_far.path) whole;
                 toward = next_toward;
               }
+
+-- the places before one and that one
+pub no_child_more : (cell : Cell) (end : ℕ) (child : CellRef) → HasNoChildBelow cell end → slice_get (slot_in cell).children end ≡ Some child → child ≡ no_ref → HasNoChildBelow cell (end + 1)
+no_child_more cell end child before is none place other below there = elim (which place end) [
+  | inl same ↦
+      let both : Some other ≡ Some child = sym there ∙ ap (slice_get (slot_in cell).children) same ∙ is in
+      ap (λ (o : Option CellRef). option_map_or (λ r. r) o other) both ∙ none
+  | inr apart ↦ before place other (omega arith) there
+]
+
+-- how far a walk down from a slot has come
+pub record IsDescended (slots : List Slot) (path : Path) (count : ℕ) (spot : Spot) : Type 0 where
+  pub down : Path
+  pub is_spot : IsSpot slots (down ++ path) spot
+  pub there : spot.slot.number ≢ 0
+  pub many : count ≤ length (down ++ path)
+
+module _ (image : Image) (class : ℕ) (slots : List Slot) (tree : AreSlots image class slots) (path : Path) where
+  pub descended_first : (spot : Spot) → IsSpot slots path spot → spot.slot.number ≢ 0 → IsDescended slots path 0 spot
+  descended_first spot is some = record { down = []; is_spot = is; there = some; many = omega arith }
+
+  module _ (count : ℕ) (spot : Spot) (so_far : IsDescended slots path count spot) where
+    pub descended_has : HasSlot slots (so_far.down ++ path) spot.slot.number
+    descended_has = spot_slot image class slots tree (so_far.down ++ path) spot so_far.is_spot so_far.there
+
+    pub descended_there : IsCell image spot.slot.number
+    descended_there = slot_cell_there image class slots tree (so_far.down ++ path) spot.slot.number descended_has
+
+    pub descended_short : count < 23
+    descended_short =
+        let most = depth image class slots tree (so_far.down ++ path) descended_has.slot descended_has.one descended_has.there in
+        let many = so_far.many in
+        omega arith
+
+    module _ (cell : Cell) (here : image spot.slot.number ≡ Some cell) where
+      pub descended_leaf : HasNoChildBelow cell slot_children → IsLeafBelow slots path spot
+      descended_leaf none = record {
+        down = so_far.down;
+        is_spot = so_far.is_spot;
+        there = so_far.there;
+        leaf = λ s one place at.
+            let above = subst (HasAbove slots) at (tree.each s one).above in
+            let child = child_there cell place above.0 in
+            let leads = read_child image class slots tree (so_far.down ++ path) spot.slot.number descended_has cell here place (ref_in cell (4 + place)) child in
+            let zero_ref = none place (ref_in cell (4 + place)) above.0 child in
+            no_slot image class slots tree (place ∷ (so_far.down ++ path)) (subst (λ (n : ℕ). Leads slots (place ∷ (so_far.down ++ path)) n) (ap (λ (r : CellRef). r.number) zero_ref) leads) s one at;
+      }
+
+      pub descended_more : (place : ℕ) (next : Spot) → place < slot_children → slice_get (slot_in cell).children place ≡ Some next.slot → IsChildAt cell place → next.above ≡ spot.slot → next.place ≡ place → IsDescended slots path (count + 1) next
+      descended_more place next below child is above at = record {
+        down = place ∷ so_far.down;
+        is_spot = record {
+          leads = read_child image class slots tree (so_far.down ++ path) spot.slot.number descended_has cell here place next.slot child;
+          led_to = (at, below, subst (λ (n : ℕ). HasSlot slots (so_far.down ++ path) n) (sym (ap (λ (r : CellRef). r.number) above)) descended_has);
+        };
+        there = λ none.
+            let both : Some next.slot ≡ Some is.0 = sym child ∙ is.1 in
+            let same : next.slot ≡ is.0 = ap (λ (o : Option CellRef). option_map_or (λ r. r) o next.slot) both in
+            is.2 (sym same ∙ ref_is next.slot 0 none);
+        many = (let many = so_far.many in omega arith);
+      }
+        where
+          ref_is : (r : CellRef) (n : ℕ) → r.number ≡ n → r ≡ record { number = n }
+          ref_is r n same = λ i. record { number = same i }

@@ -58,6 +58,7 @@ pub fn find<C: Cells>(cells: &C, class: u32, id: u64) -> Spot
 /// Returns the lowest place of a slot's children at which there is one.
 fn lowest_child(cell: &Cell) -> Option<usize>
     ensures found { IfSome result (IsChildAt cell.now) }
+    ensures within { IfSome result (λ place. place < slot_children) }
     ensures lowest { IfSome result (HasNoChildBelow cell.now) }
     ensures none { IfNone result (HasNoChildBelow cell.now slot_children) }
 {
