@@ -1,3 +1,5 @@
 pub mod TreeLemmas
 pub mod WalkLemmas
 pub mod ObjectLemmas
+pub mod TreeChanges
+pub mod TreeSteps
