@@ -1,6 +1,7 @@
 -- The objects of a tree's slots: what a slot says of its object, and what changes of lists of objects make of their versions.
 use Rattle.std.proofs.Common.{◌≡◌, ◌≢◌, ◌<◌, ◌≤◌, ◌+◌, ◌⊎◌, ◌++◌, zero, suc, ℕ, List, [], ◌∷◌, length, map, slice_get, Option, Some, None, IsSome, Bool, true, false, cond, inl, inr, refl, sym, ap, ap₂, subst, ◌∙◌, arith, rules}
 use Rattle.std.proofs.Permutation.{which}
+use borrow.Author.Tests.{eq-eqb}
 use Rattle.std.proofs.lemmas.Bool.{ne_eqb}
 use Rattle.std.specs.Prelude.{◌==◌, if◌then◌else◌}
 use Rattle.rdb_pages.specs.declared.cell.Cell.{Cell}
@@ -53,3 +54,18 @@ module _ (image : Image) (class id : ℕ) (spot : Spot) (objects : List Object) 
     found_version cell newest here is =
         let has = (holds.versions found_slot.0 found_slot.1).0 in
         ap (λ (r : CellRef). Some r) (is ∙ found_newest cell here) ∙ sym (first_version found_slot.0.versions has) ∙ sym (ap (λ (vs : List CellRef). slice_get vs 0) found_versions)
+
+-- Lists of objects
+pub with_here : (os : List Object) (id : ℕ) (version : CellRef) → versions_of (with_version os id version) id ≡ version ∷ versions_of os id
+with_here [] id version = rw (eq-eqb id id refl) refl
+with_here (o ∷ os) id version = elim (which o.id id) [
+  | inl same ↦ rw (eq-eqb o.id id same) (rw (eq-eqb o.id id same) refl)
+  | inr apart ↦ rw (ne_eqb o.id id apart) (rw (ne_eqb o.id id apart) (with_here os id version))
+]
+
+pub with_other : (os : List Object) (id : ℕ) (version : CellRef) (k : ℕ) → k ≢ id → versions_of (with_version os id version) k ≡ versions_of os k
+with_other [] id version k apart = rw (ne_eqb id k (λ e. apart (sym e))) refl
+with_other (o ∷ os) id version k apart = elim (which o.id id) [
+  | inl same ↦ rw (eq-eqb o.id id same) (rw (ne_eqb o.id k (λ e. apart (sym e ∙ same))) refl)
+  | inr other ↦ rw (ne_eqb o.id id other) (ap (λ (vs : List CellRef). if o.id == k then o.versions else vs) (with_other os id version k apart))
+]
