@@ -1,11 +1,7 @@
 -- Walks through the chain of an object's versions.
 use Rattle.std.specs.Prelude.{◌≡◌, ◌≢◌, ◌++◌, ℕ, List, ◌∷◌, Contains}
-use Rattle.rdb_pages.specs.declared.cell.Cell.{Cell}
 use Rattle.rdb_pages.specs.declared.cell.CellRef.{CellRef}
-use Rattle.rdb_cells.specs.declared.kind.Kind.TheVariants as kind
 use Rattle.rdb_cells.specs.Images.{Image}
-use Rattle.rdb_cells.specs.VersionFormat.{header_in}
-use Rattle.rdb_cells.specs.Words.{IsOfKind}
 use Rattle.rdb_objects.specs.Objects.{newest_of}
 use Rattle.rdb_objects.specs.Slots.{AreVersions}
 
@@ -26,8 +22,3 @@ pub record IsBehind (image : Image) (newest version : CellRef) : Type 0 where
 abbrev pub IsNewer : Image → CellRef → CellRef → CellRef → Type 0
 IsNewer image newest version newer = (id : ℕ) (versions : List CellRef) → AreFrom image newest id versions →
     (front : List CellRef) × (back : List CellRef) × (versions ≡ front ++ newer ∷ version ∷ back)
-
--- a header that leads to another version, and says all else that it said
-pub record LeadsElsewhere (cell now : Cell) (older : CellRef) : Type 0 where
-  pub kind : IsOfKind now kind.Version
-  pub says : header_in now ≡ record (header_in cell) { older = older }

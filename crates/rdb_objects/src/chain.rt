@@ -1,9 +1,8 @@
 //! The chain of an object's versions: each header leads to the next older one. It reads headers alone, and writes nothing.
-ghost use Rattle.std.specs.Prelude.{◌<◌, ◌^◌};
-ghost use Rattle.rdb_objects.specs.Chains.{IsBehind, IsNewer, LeadsElsewhere};
+ghost use Rattle.rdb_objects.specs.Chains.{IsBehind, IsNewer};
 
 use rdb_cells::{Cells, LAST_HEAD, VersionHeader};
-use rdb_pages::{Cell, CellRef};
+use rdb_pages::CellRef;
 
 /// Finds the version in a chain that leads to another. The cost grows with the number of versions that are newer.
 pub fn newer_than<C: Cells>(cells: &C, newest: CellRef, version: CellRef) -> CellRef
@@ -19,14 +18,4 @@ pub fn newer_than<C: Cells>(cells: &C, newest: CellRef, version: CellRef) -> Cel
         newer = older;
     }
     unreachable!()
-}
-
-/// Returns a header that leads to another version, and says all else that it said.
-pub fn leading_to(cell: &Cell, older: CellRef) -> Cell
-    requires { older.number < 2 ^ 24 }
-    ensures { LeadsElsewhere cell.now result older }
-{
-    let mut header = VersionHeader::of_cell(cell);
-    header.older = older;
-    header.to_cell()
 }

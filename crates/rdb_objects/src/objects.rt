@@ -8,7 +8,7 @@ ghost use Rattle.rdb_objects.specs.Changes.{CanAdd, HasVersion, HasLast, HasRoom
 ghost use Rattle.rdb_objects.specs.Walks.{WhateverSlots, IsFound};
 ghost use Rattle.rdb_cells.specs.Words.{no_ref};
 
-use crate::chain::{leading_to, newer_than};
+use crate::chain::newer_than;
 use crate::tree::{Spot, find, link, lowest_leaf};
 use rdb_cells::{Cells, NONE, ObjectSlot, Overlay, SLOT_CHILDREN, VersionHeader};
 use rdb_pages::{Cell, CellRef};
@@ -71,7 +71,7 @@ impl Objects {
         let mut slot = ObjectSlot::of_cell(cells.planned(spot.slot));
         if slot.newest != version {
             let newer = newer_than(cells, slot.newest, version);
-            let cell = leading_to(cells.planned(newer), older);
+            let cell = VersionHeader::with_older(cells.planned(newer), older);
             cells.put(newer, cell);
         } else if older != NONE {
             slot.newest = older;
