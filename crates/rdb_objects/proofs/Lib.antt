@@ -3,3 +3,4 @@ pub mod WalkLemmas
 pub mod ObjectLemmas
 pub mod TreeChanges
 pub mod TreeSteps
+pub mod Adding

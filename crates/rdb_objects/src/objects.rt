@@ -49,6 +49,7 @@ impl Objects {
         if spot.slot == NONE {
             add_slot(cells, self.class, spot, id, version);
         } else {
+            cells.bounded();
             let mut slot = ObjectSlot::of_cell(cells.planned(spot.slot));
             slot.newest = version;
             cells.put(spot.slot, slot.to_cell());
