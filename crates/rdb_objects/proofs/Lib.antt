@@ -4,3 +4,4 @@ pub mod ObjectLemmas
 pub mod TreeChanges
 pub mod TreeSteps
 pub mod Adding
+pub mod ChainLemmas

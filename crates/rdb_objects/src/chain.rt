@@ -9,6 +9,7 @@ pub fn newer_than<C: Cells>(cells: &C, newest: CellRef, version: CellRef) -> Cel
     requires { IsBehind (C.image cells.now) newest version }
     ensures { IsNewer (C.image cells.now) newest version result }
 {
+    cells.bounded();
     let mut newer = newest;
     for _ in 0..LAST_HEAD {
         let older = VersionHeader::older_in(cells.read(newer));
