@@ -5,3 +5,7 @@ pub mod TreeChanges
 pub mod TreeSteps
 pub mod Adding
 pub mod ChainLemmas
+pub mod OneTree
+pub mod LawLemmas
+pub mod Removing
+pub mod RemovingSlots
