@@ -9,3 +9,4 @@ pub mod OneTree
 pub mod LawLemmas
 pub mod Removing
 pub mod RemovingSlots
+pub mod Moving
