@@ -10,3 +10,4 @@ pub mod LawLemmas
 pub mod Removing
 pub mod RemovingSlots
 pub mod Moving
+pub mod Removable

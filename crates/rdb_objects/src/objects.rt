@@ -67,6 +67,7 @@ impl Objects {
         ensures removes { RemovesVersion self.class (work C.Cells cells.old) (work C.Cells cells.new) id version }
         ensures below { (cells.new.cells ≡ cells.old.cells) × (cells.new.class ≡ cells.old.class) }
     {
+        cells.bounded();
         let spot = find(cells, self.class, id);
         let older = VersionHeader::older_in(cells.planned(version));
         let mut slot = ObjectSlot::of_cell(cells.planned(spot.slot));
