@@ -59,11 +59,13 @@ module _ (class head : ℕ) where
   pub hash_starts_empty : StartsEmpty (hash_nature class head)
   hash_starts_empty said image empty = record {
     tables = replicate index_roots no_table;
-    leads = record { cell = index_head_cell empty_index_head; here = empty; kind = refl; leads = refl };
-    apart = record { stand = tt; once = tt };
-    shaped = λ place t at. subst (IsTable place) (one_thing index_roots no_table place t at) (empty_shaped place);
+    stand = record {
+      leads = record { cell = index_head_cell empty_index_head; here = empty; kind = refl; leads = refl };
+      apart = record { stand = tt; once = tt };
+      shaped = λ place t at. subst (IsTable place) (one_thing index_roots no_table place t at) (empty_shaped place);
+      paged = λ n none. absurd none;
+    };
     hashed = tt;
-    paged = λ n none. absurd none;
     listed_is = refl;
     nodes_are = refl;
     versions = record { keyed = λ r within. absurd (none_in r within); once = λ r within. absurd (none_in r within); differ = λ q r within. absurd (none_in q within) };
@@ -74,22 +76,26 @@ module _ (class head : ℕ) where
 
   pub hash_has_index_cells : HasIndexCells (hash_nature class head)
   hash_has_index_cells said image listed nodes hash = record {
-    head = (hash.leads.cell, hash.leads.here, hash.leads.kind);
+    head = (hash.stand.leads.cell, hash.stand.leads.here, hash.stand.leads.kind);
     nodes = λ n within.
-        let node = node_of IsWritten image (hash_nodes hash.tables) n hash.apart.stand (subst (λ (ns : List ℕ). IsAmong ns n) hash.nodes_are within) in
+        let node = node_of IsWritten image (hash_nodes hash.tables) n hash.stand.apart.stand (subst (λ (ns : List ℕ). IsAmong ns n) hash.nodes_are within) in
         subst (IsIndexNode image) node.1 (node_kind image node.0 node.2);
-    once = subst AreOnce (sym hash.nodes_are) hash.apart.once;
+    once = subst AreOnce (sym hash.nodes_are) hash.stand.apart.once;
   }
 
   pub hash_rests_on_nodes : RestsOnNodes (hash_nature class head)
-  hash_rests_on_nodes said image listed nodes hash again after says same = record {
-    tables = hash.tables;
-    leads = record { cell = hash.leads.cell; here = same head (inl refl) ∙ hash.leads.here; kind = hash.leads.kind; leads = hash.leads.leads };
-    apart = still_apart IsWritten image after (hash_nodes hash.tables) (λ n within. same n (inr (subst (λ (ns : List ℕ). IsAmong ns n) (sym hash.nodes_are) within))) hash.apart;
-    shaped = hash.shaped;
-    hashed = hashed_again said again (hash_nodes hash.tables) (subst (SaySame said again) hash.listed_is says) hash.hashed;
-    paged = hash.paged;
-    listed_is = hash.listed_is;
-    nodes_are = hash.nodes_are;
-    versions = lists_again said again listed says hash.versions;
-  }
+  hash_rests_on_nodes said image listed nodes hash again after says same =
+      let nodes_same : SameOn (numbers (hash_nodes hash.tables)) image after = λ n within. same n (inr (subst (λ (ns : List ℕ). IsAmong ns n) (sym hash.nodes_are) within)) in
+      record {
+        tables = hash.tables;
+        stand = record {
+          leads = record { cell = hash.stand.leads.cell; here = same head (inl refl) ∙ hash.stand.leads.here; kind = hash.stand.leads.kind; leads = hash.stand.leads.leads };
+          apart = still_apart IsWritten image after (hash_nodes hash.tables) nodes_same hash.stand.apart;
+          shaped = hash.stand.shaped;
+          paged = hash.stand.paged;
+        };
+        hashed = hashed_again said again (hash_nodes hash.tables) (subst (SaySame said again) hash.listed_is says) hash.hashed;
+        listed_is = hash.listed_is;
+        nodes_are = hash.nodes_are;
+        versions = lists_again said again listed says hash.versions;
+      }

@@ -1,0 +1,46 @@
+-- An element at a place of a list, and another put there.
+use Rattle.std.proofs.Common.{◌≡◌, ◌≢◌, ◌<◌, ◌+◌, ◌++◌, zero, suc, ℕ, List, [], ◌∷◌, length, map, slice_get, Option, Some, None, inl, inr, refl, sym, ap, subst, ◌∙◌, arith}
+use Rattle.std.proofs.Permutation.{which}
+use Rattle.std.proofs.lemmas.Option.{slice_get-map}
+use Rattle.std.specs.Option.{option_map, option_map_or}
+
+pub some_is : {X : Type 0} (x y : X) → Some x ≡ Some y → x ≡ y
+some_is x y e = ap (λ o. option_map_or (λ z. z) o x) e
+
+module _ {X : Type 0} where
+  -- a list at a place of it
+  pub split_place : (xs : List X) (i : ℕ) (x : X) → slice_get xs i ≡ Some x → (front : List X) × (back : List X) × (xs ≡ front ++ x ∷ back) × (length front ≡ i)
+  split_place [] i x at = cc
+  split_place (y ∷ ys) zero x at = ([], ys, ap (λ (z : X). z ∷ ys) (some_is y x at), refl)
+  split_place (y ∷ ys) (suc i) x at = let rest = split_place ys i x at in (y ∷ rest.0, rest.1, ap (λ (zs : List X). y ∷ zs) rest.2, ap suc rest.3)
+
+  pub get_here : (front : List X) (x : X) (back : List X) → slice_get (front ++ x ∷ back) (length front) ≡ Some x
+  get_here [] x back = refl
+  get_here (y ∷ ys) x back = get_here ys x back
+
+  pub get_elsewhere : (front : List X) (x y : X) (back : List X) (i : ℕ) → i ≢ length front → slice_get (front ++ y ∷ back) i ≡ slice_get (front ++ x ∷ back) i
+  get_elsewhere [] x y back zero apart = absurd (apart refl)
+  get_elsewhere [] x y back (suc i) apart = refl
+  get_elsewhere (z ∷ zs) x y back zero apart = refl
+  get_elsewhere (z ∷ zs) x y back (suc i) apart = get_elsewhere zs x y back i (λ same. apart (ap suc same))
+
+  -- what holds of each element holds with another one in its place, if it holds of that
+  pub each_with : (P : ℕ → X → Type 0) (front : List X) (x y : X) (back : List X) → ((i : ℕ) (z : X) → slice_get (front ++ x ∷ back) i ≡ Some z → P i z) → P (length front) y → (i : ℕ) (z : X) → slice_get (front ++ y ∷ back) i ≡ Some z → P i z
+  each_with P front x y back each here i z at = elim (which i (length front)) [
+    | inl same ↦ subst (λ (k : ℕ). P k z) (sym same) (subst (P (length front)) (some_is y z (sym (get_here front y back) ∙ ap (slice_get (front ++ y ∷ back)) (sym same) ∙ at)) here)
+    | inr apart ↦ each i z (sym (get_elsewhere front x y back i apart) ∙ at)
+  ]
+
+  pub same_length : (front : List X) (x y : X) (back : List X) → length (front ++ y ∷ back) ≡ length (front ++ x ∷ back)
+  same_length [] x y back = refl
+  same_length (z ∷ zs) x y back = ap suc (same_length zs x y back)
+
+  -- there is an element at each place
+  pub some_at : (xs : List X) (i : ℕ) → i < length xs → (x : X) × (slice_get xs i ≡ Some x)
+  some_at [] i within = absurd (omega arith)
+  some_at (x ∷ xs) zero within = (x, refl)
+  some_at (x ∷ xs) (suc i) within = some_at xs i (omega arith)
+
+-- an element of a list that was mapped
+pub got_mapped : {X Y : Type 0} (f : X → Y) (xs : List X) (i : ℕ) (x : X) (y : Y) → slice_get xs i ≡ Some x → slice_get (map f xs) i ≡ Some y → f x ≡ y
+got_mapped f xs i x y at got = some_is (f x) y (sym (slice_get-map f xs i ∙ ap (option_map f) at) ∙ got)
