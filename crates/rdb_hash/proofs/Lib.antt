@@ -4,3 +4,11 @@ pub mod ShapeLemmas
 pub mod WalkLemmas
 pub mod KeyTests
 pub mod GatherLemmas
+pub mod TableLemmas
+pub mod ElsewhereLemmas
+pub mod AroundLemmas
+pub mod EqualLemmas
+pub mod FrameLemmas
+pub mod EditLemmas
+pub mod ChangeLemmas
+pub mod PutLemmas

@@ -44,3 +44,21 @@ module _ {X : Type 0} where
 -- an element of a list that was mapped
 pub got_mapped : {X Y : Type 0} (f : X → Y) (xs : List X) (i : ℕ) (x : X) (y : Y) → slice_get xs i ≡ Some x → slice_get (map f xs) i ≡ Some y → f x ≡ y
 got_mapped f xs i x y at got = some_is (f x) y (sym (slice_get-map f xs i ∙ ap (option_map f) at) ∙ got)
+
+module _ {X : Type 0} where
+  pub got_within : (xs : List X) (i : ℕ) (x : X) → slice_get xs i ≡ Some x → i < length xs
+  got_within [] i x at = cc
+  got_within (y ∷ ys) zero x at = omega arith
+  got_within (y ∷ ys) (suc i) x at = let rest = got_within ys i x at in omega arith
+
+  -- the elements before a place, and those behind it
+  pub get_before : (front : List X) (x : X) (back : List X) (i : ℕ) (z : X) → slice_get front i ≡ Some z → slice_get (front ++ x ∷ back) i ≡ Some z
+  get_before [] x back i z at = cc
+  get_before (y ∷ ys) x back zero z at = at
+  get_before (y ∷ ys) x back (suc i) z at = get_before ys x back i z at
+
+  pub get_behind : (front : List X) (x : X) (back : List X) (i : ℕ) → slice_get (front ++ x ∷ back) (suc (length front + i)) ≡ slice_get back i
+  get_behind [] x back i = let e : suc (0 + i) ≡ suc i = omega arith in ap (slice_get (x ∷ back)) e
+  get_behind (y ∷ ys) x back i =
+      let e : suc (suc (length ys) + i) ≡ suc (suc (length ys + i)) = omega arith in
+      ap (slice_get (y ∷ (ys ++ x ∷ back))) e ∙ get_behind ys x back i

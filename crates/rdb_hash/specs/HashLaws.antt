@@ -1,5 +1,5 @@
 -- A hash index meets the laws of an index. No tactic stands here.
-use Rattle.std.specs.Prelude.{◌≡◌, ℕ, zero, suc, List, [], ◌∷◌, ◌++◌, replicate, slice_get, Option, Some, None, IsSome, is_some, Contains, refl}
+use Rattle.std.specs.Prelude.{◌≡◌, ◌≤◌, ◌*◌, ℕ, zero, suc, List, [], ◌∷◌, ◌++◌, length, replicate, slice_get, Option, Some, None, IsSome, is_some, Contains, refl}
 use Rattle.std.specs.Option.{option_map_or}
 use mathlib.Core.Bool.{false≢true}
 use mathlib.Core.Logic.{inl, inr}
@@ -11,12 +11,13 @@ use Rattle.rdb_cells.specs.declared.kind.Kind.TheVariants as kind
 use Rattle.rdb_cells.specs.HashFormat.{table_buckets}
 use Rattle.rdb_cells.specs.HeadFormat.{index_head_cell, empty_index_head, index_roots}
 use Rattle.rdb_cells.specs.Images.{Image}
-use Rattle.rdb_cells.specs.Index.{IsIndexNode, StartsEmpty, ListsOnce, HasIndexCells, RestsOnNodes}
+use Rattle.rdb_cells.specs.Index.{IsIndexNode, StartsEmpty, ListsOnce, HasIndexCells, HasFewNodes, RestsOnNodes}
 use Rattle.rdb_cells.specs.Keys.{Sayings, Version, SaySame}
 use Rattle.rdb_cells.specs.Links.{IsAmong, AreOnce, SameOn, Node, IsHeld, Placed, numbers}
 use Rattle.rdb_cells.specs.LinkLaws.{still_apart, node_of}
 use Rattle.rdb_cells.specs.PlainLaws.{lists_again}
 use Rattle.rdb_cells.specs.Words.{HasKind}
+use Rattle.rdb_hash.specs.FewNodes.{few_nodes}
 use Rattle.rdb_hash.specs.Shape.{Held, Buckets, Entry, Table, no_table, IsWritten, AreEntriesOf, IsHashed, AreHashed, IsTable, IsHash, bucket_number, versions_of, version_in, hash_nodes, hash_nature}
 
 -- each element of a list of one thing is that
@@ -82,6 +83,12 @@ module _ (class head : ℕ) where
         subst (IsIndexNode image) node.1 (node_kind image node.0 node.2);
     once = subst AreOnce (sym hash.nodes_are) hash.stand.apart.once;
   }
+
+  pub hash_has_few_nodes : HasFewNodes (hash_nature class head)
+  hash_has_few_nodes said image listed nodes hash =
+      subst (λ (ns : List ℕ). length ns ≤ 2 * length listed) (sym hash.nodes_are)
+      (subst (λ (rs : List CellRef). length (numbers (hash_nodes hash.tables)) ≤ 2 * length rs) (sym hash.listed_is)
+      (few_nodes hash.tables (λ place t at. (place, hash.stand.shaped place t at))).few)
 
   pub hash_rests_on_nodes : RestsOnNodes (hash_nature class head)
   hash_rests_on_nodes said image listed nodes hash again after says same =

@@ -6,9 +6,12 @@
 //! | a table         | the first entry of each of its buckets                            |
 //! | an entry        | its version, and the next entry of its bucket                     |
 ghost use Rattle.std.specs.Prelude.{◌≡◌, ◌<◌, IfOk, true};
+ghost use Rattle.rdb_cells.specs.HashFormat.{table_buckets};
+ghost use Rattle.rdb_cells.specs.HeadFormat.{index_roots};
 ghost use Rattle.rdb_cells.specs.References.{index_head_ref, max_classes, max_indexes};
 ghost use Rattle.rdb_hash.specs.Lookup.{StandsBy, IsFound};
 ghost use Rattle.rdb_hash.specs.Shape.{hash_nature};
+ghost use Rattle.rdb_hash.specs.Walks.{HasTables, IsFirst};
 
 use crate::bucket::Bucket;
 use crate::chain::{find, gather, list};
@@ -65,7 +68,12 @@ impl Hash {
     }
 
     /// Returns the first entry of a bucket, `NONE` where it has none.
-    fn first_of<C: Cells>(&self, cells: &C, bucket: Bucket) -> CellRef {
+    fn first_of<C: Cells>(&self, cells: &C, bucket: Bucket) -> CellRef
+        requires tables { HasTables (C.image cells.now) self.now.head.number }
+        requires table { bucket.table < index_roots }
+        requires place { bucket.place < table_buckets }
+        ensures { IsFirst (C.image cells.now) self.now.head.number bucket.table bucket.place result.number }
+    {
         let table = IndexHead::root_in(cells.read(self.head), bucket.table);
         if table == NONE {
             return NONE;
@@ -135,7 +143,8 @@ fn lead_past<C: Cells>(cells: &mut Overlay<C>, before: CellRef, next: CellRef) {
 
 impl Index for Hash {
     ghost use Rattle.rdb_hash.specs.Shape.{hash_nature};
-    ghost use Rattle.rdb_hash.specs.HashLaws.{hash_starts_empty, hash_lists_once, hash_has_index_cells, hash_rests_on_nodes};
+    ghost use Rattle.rdb_hash.specs.HashLaws.{hash_starts_empty, hash_lists_once, hash_has_index_cells};
+    ghost use Rattle.rdb_hash.specs.HashLaws.{hash_has_few_nodes, hash_rests_on_nodes};
 
     ghost nature = { λ hash. hash_nature hash.class hash.head.number };
 
@@ -189,6 +198,8 @@ impl Index for Hash {
     ghost lists_once = { λ hash. hash_lists_once hash.class hash.head.number };
 
     ghost has_index_cells = { λ hash. hash_has_index_cells hash.class hash.head.number };
+
+    ghost has_few_nodes = { λ hash. hash_has_few_nodes hash.class hash.head.number };
 
     ghost rests_on_nodes = { λ hash. hash_rests_on_nodes hash.class hash.head.number };
 }
