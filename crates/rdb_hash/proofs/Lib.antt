@@ -11,4 +11,7 @@ pub mod EqualLemmas
 pub mod FrameLemmas
 pub mod EditLemmas
 pub mod ChangeLemmas
+pub mod FinishLemmas
 pub mod PutLemmas
+pub mod NewTableLemmas
+pub mod RemoveLemmas

@@ -1,5 +1,5 @@
 -- An element at a place of a list, and another put there.
-use Rattle.std.proofs.Common.{◌≡◌, ◌≢◌, ◌<◌, ◌+◌, ◌++◌, zero, suc, ℕ, List, [], ◌∷◌, length, map, slice_get, Option, Some, None, inl, inr, refl, sym, ap, subst, ◌∙◌, arith}
+use Rattle.std.proofs.Common.{◌≡◌, ◌≢◌, ◌<◌, ◌+◌, ◌++◌, zero, suc, ℕ, List, [], ◌∷◌, length, map, slice_get, slice_set, get_or, Option, Some, None, inl, inr, refl, sym, ap, subst, ◌∙◌, arith}
 use Rattle.std.proofs.Permutation.{which}
 use Rattle.std.proofs.lemmas.Option.{slice_get-map}
 use Rattle.std.specs.Option.{option_map, option_map_or}
@@ -62,3 +62,23 @@ module _ {X : Type 0} where
   get_behind (y ∷ ys) x back i =
       let e : suc (suc (length ys) + i) ≡ suc (suc (length ys + i)) = omega arith in
       ap (slice_get (y ∷ (ys ++ x ∷ back))) e ∙ get_behind ys x back i
+
+-- mapped lists with another element in a place
+pub set_mapped : {X : Type 0} (f : X → ℕ) (front : List X) (x y : X) (back : List X) (n : ℕ) → f y ≡ n → slice_set (map f (front ++ x ∷ back)) (length front) n ≡ map f (front ++ y ∷ back)
+set_mapped f [] x y back n is = ap (λ (k : ℕ). k ∷ map f back) (sym is)
+set_mapped f (z ∷ zs) x y back n is = ap (λ (ns : List ℕ). f z ∷ ns) (set_mapped f zs x y back n is)
+
+pub map_set : {X : Type 0} (f : X → ℕ) (xs : List X) (i : ℕ) (x : X) → map f (slice_set xs i x) ≡ slice_set (map f xs) i (f x)
+map_set f [] i x = refl
+map_set f (y ∷ ys) zero x = refl
+map_set f (y ∷ ys) (suc i) x = ap (λ (ns : List ℕ). f y ∷ ns) (map_set f ys i x)
+
+pub same_mapped : {X : Type 0} (f : X → ℕ) (front : List X) (x y : X) (back : List X) → f y ≡ f x → map f (front ++ y ∷ back) ≡ map f (front ++ x ∷ back)
+same_mapped f [] x y back same = ap (λ (k : ℕ). k ∷ map f back) same
+same_mapped f (z ∷ zs) x y back same = ap (λ (ns : List ℕ). f z ∷ ns) (same_mapped f zs x y back same)
+
+-- an element that stands at a place
+pub got_or : {X : Type 0} (xs : List X) (i : ℕ) (d : X) → i < length xs → slice_get xs i ≡ Some (get_or xs i d)
+got_or [] i d within = absurd (omega arith)
+got_or (x ∷ xs) zero d within = refl
+got_or (x ∷ xs) (suc i) d within = got_or xs i d (omega arith)

@@ -85,6 +85,20 @@ pub hashed_together : (said : Sayings) (xs ys : List (Node Held)) → AreHashed 
 hashed_together said [] ys first second = second
 hashed_together said (x ∷ xs) ys first second = (first.0, hashed_together said xs ys first.1 second)
 
+pub chain_hashed_parts : (said : Sayings) (xs ys : List (Placed Held)) → AreHashed said (segment (xs ++ ys) 0) → AreHashed said (segment xs 0) × AreHashed said (segment ys 0)
+chain_hashed_parts said [] ys hashed = (tt, hashed)
+chain_hashed_parts said (x ∷ xs) ys hashed = let rest = chain_hashed_parts said xs ys hashed.1 in ((hashed.0, rest.0), rest.1)
+
+pub chain_hashed_together : (said : Sayings) (xs ys : List (Placed Held)) → AreHashed said (segment xs 0) → AreHashed said (segment ys 0) → AreHashed said (segment (xs ++ ys) 0)
+chain_hashed_together said [] ys first second = second
+chain_hashed_together said (x ∷ xs) ys first second = (first.0, chain_hashed_together said xs ys first.1 second)
+
+pub bucket_of_hashed : (said : Sayings) (a : Around) → AreHashed said (nodes_of a) → AreHashed said (segment a.bucket 0)
+bucket_of_hashed said a hashed =
+    let own = own_node a.number (starts (buckets_of a)) in
+    let inner = (hashed_parts said own (bucket_nodes a.left ++ (segment a.bucket 0 ++ behind a)) (hashed_parts said (hash_nodes a.front) (own ++ (bucket_nodes a.left ++ (segment a.bucket 0 ++ behind a))) hashed).1).1 in
+    (hashed_parts said (segment a.bucket 0) (behind a) (hashed_parts said (bucket_nodes a.left) (segment a.bucket 0 ++ behind a) inner).1).0
+
 -- the node of a table is no entry
 pub own_versions : (number : ℕ) (links : List ℕ) → versions_of (own_node number links) ≡ []
 own_versions zero links = refl

@@ -1,8 +1,8 @@
 -- A hash index has at most two nodes for each version that it lists. No tactic stands here.
 use Rattle.std.specs.Prelude.{◌≡◌, ◌≤◌, ◌+◌, ◌*◌, ◌++◌, ℕ, zero, suc, List, [], ◌∷◌, length, slice_get, Some, refl}
 use mathlib.Core.Path.{sym, ap, subst, ◌∙◌}
-use native.Mathlib.Nat.{le_trans, le-suc, suc-add, add-suc, suc-ne-zero, two-mul, zero-le}
-use Prim.Native.Nat.{suc-le-suc}
+use native.Mathlib.Nat.{le_trans, le-suc, suc-add, add-suc, suc-ne-zero, two-mul}
+use Prim.Native.Nat.{suc-le-suc, zero-le}
 use Rattle.rdb_pages.specs.declared.cell.CellRef.{CellRef}
 use Rattle.rdb_cells.specs.Links.{Node, Placed, numbers, segment}
 use Rattle.rdb_hash.specs.Shape.{Held, Buckets, Entry, Table, AreEntriesOf, IsEntryOf, IsTable, own_node, starts, bucket_nodes, hash_nodes, version_in, versions_of}
@@ -65,7 +65,7 @@ entry_nodes [] each = tt
 entry_nodes (b ∷ bs) each = chain_nodes (each 0 b refl).0 b (bucket_nodes bs) (each 0 b refl).1 (entry_nodes bs (λ word c at. each (suc word) c at))
 
 pub few_nodes : (tables : List Table) → ((place : ℕ) (t : Table) → slice_get tables place ≡ Some t → (k : ℕ) × IsTable k t) → HaveFew (hash_nodes tables)
-few_nodes [] each = record { few = zero-le _ }
+few_nodes [] each = record { few = zero-le }
 few_nodes (t ∷ ts) each =
     let is = (each 0 t refl).1 in
     own_more t.number (starts t.buckets) (bucket_nodes t.buckets) (hash_nodes ts) is.used.1

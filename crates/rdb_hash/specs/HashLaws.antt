@@ -37,7 +37,7 @@ empty_shaped place = record {
 }
 
 -- keys that say the same of versions say the same of their hashes
-hashed_again : (said again : Sayings) (nodes : List (Node Held)) → SaySame said again (versions_of nodes) → AreHashed said nodes → AreHashed again nodes
+pub hashed_again : (said again : Sayings) (nodes : List (Node Held)) → SaySame said again (versions_of nodes) → AreHashed said nodes → AreHashed again nodes
 hashed_again said again [] same hashed = tt
 hashed_again said again (x ∷ xs) same hashed = by_element x.element same hashed.0 (λ same_there. hashed_again said again xs same_there hashed.1)
   where

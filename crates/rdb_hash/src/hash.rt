@@ -5,10 +5,14 @@
 //! | the index head  | the tables, each in a cell while one of its buckets has an entry  |
 //! | a table         | the first entry of each of its buckets                            |
 //! | an entry        | its version, and the next entry of its bucket                     |
-ghost use Rattle.std.specs.Prelude.{◌≡◌, ◌<◌, IfOk, true};
+ghost use Rattle.std.specs.Prelude.{◌≡◌, ◌≢◌, ◌+◌, ◌<◌, ◌≤◌, length, IfOk, true};
 ghost use Rattle.rdb_cells.specs.HashFormat.{table_buckets};
 ghost use Rattle.rdb_cells.specs.HeadFormat.{index_roots};
 ghost use Rattle.rdb_cells.specs.References.{index_head_ref, max_classes, max_indexes};
+ghost use Rattle.rdb_cells.specs.Parts.{hash_part};
+ghost use Rattle.rdb_cells.specs.Words.{no_ref};
+ghost use Rattle.rdb_cells.specs.Work.{work, reading, HasLeft};
+ghost use Rattle.rdb_hash.specs.Changes.{IsPutHashed, HasRoot, IsBucketOf};
 ghost use Rattle.rdb_hash.specs.Lookup.{StandsBy, IsFound};
 ghost use Rattle.rdb_hash.specs.Shape.{hash_nature};
 ghost use Rattle.rdb_hash.specs.Walks.{HasTables, IsFirst};
@@ -88,7 +92,16 @@ impl Hash {
         bucket: Bucket,
         version: CellRef,
         hash: u32,
-    ) {
+    )
+        requires tables { HasTables (reading (work C.Cells cells.old)) self.now.head.number }
+        requires root { HasRoot (reading (work C.Cells cells.old)) self.now.head.number bucket.table no_ref }
+        requires bucket { IsBucketOf bucket hash }
+        requires places { length cells.old.plan.pairs + 50 ≤ cells.old.plan.room }
+        requires free { HasLeft (work C.Cells cells.old) hash_part }
+        ensures put { IsPutHashed (hash_nature self.now.class self.now.head.number)
+            (work C.Cells cells.old) (work C.Cells cells.new) version hash }
+        ensures below { (cells.new.cells ≡ cells.old.cells) × (cells.new.class ≡ cells.old.class) }
+    {
         let mut head = IndexHead::of_cell(cells.planned(self.head));
         let place = cells.take();
         let table = cells.take();
@@ -105,6 +118,37 @@ impl Hash {
         cells.put(self.head, head.to_cell());
     }
 
+    /// Puts the entry first into its bucket of a table.
+    fn put_in_table<C: Cells>(
+        &self,
+        cells: &mut Overlay<C>,
+        table: CellRef,
+        bucket: Bucket,
+        version: CellRef,
+        hash: u32,
+    )
+        requires tables { HasTables (reading (work C.Cells cells.old)) self.now.head.number }
+        requires root { HasRoot (reading (work C.Cells cells.old)) self.now.head.number bucket.table table }
+        requires some { table.number ≢ 0 }
+        requires bucket { IsBucketOf bucket hash }
+        requires places { length cells.old.plan.pairs + 50 ≤ cells.old.plan.room }
+        requires free { HasLeft (work C.Cells cells.old) hash_part }
+        ensures put { IsPutHashed (hash_nature self.now.class self.now.head.number)
+            (work C.Cells cells.old) (work C.Cells cells.new) version hash }
+        ensures below { (cells.new.cells ≡ cells.old.cells) × (cells.new.class ≡ cells.old.class) }
+    {
+        let mut buckets = HashTable::of_cell(cells.planned(table)).buckets;
+        let place = cells.take();
+        let entry = HashEntry {
+            next: buckets[bucket.place],
+            version,
+            hash,
+        };
+        cells.put(place, entry.to_cell());
+        buckets[bucket.place] = place;
+        cells.put(table, HashTable { buckets }.to_cell());
+    }
+
     /// Gives the table's cell back, whose last entry has gone.
     fn drop_table<C: Cells>(&self, cells: &mut Overlay<C>, table: CellRef, bucket: Bucket) {
         let mut head = IndexHead::of_cell(cells.planned(self.head));
@@ -112,26 +156,6 @@ impl Hash {
         head.roots[bucket.table] = NONE;
         cells.put(self.head, head.to_cell());
     }
-}
-
-/// Puts the entry first into its bucket of a table.
-fn put_in_table<C: Cells>(
-    cells: &mut Overlay<C>,
-    table: CellRef,
-    bucket: Bucket,
-    version: CellRef,
-    hash: u32,
-) {
-    let mut buckets = HashTable::of_cell(cells.planned(table)).buckets;
-    let place = cells.take();
-    let entry = HashEntry {
-        next: buckets[bucket.place],
-        version,
-        hash,
-    };
-    cells.put(place, entry.to_cell());
-    buckets[bucket.place] = place;
-    cells.put(table, HashTable { buckets }.to_cell());
 }
 
 /// Leads an entry past the next one.
@@ -156,7 +180,7 @@ impl Index for Hash {
         if table == NONE {
             self.put_in_new_table(cells, bucket, version, hash);
         } else {
-            put_in_table(cells, table, bucket, version, hash);
+            self.put_in_table(cells, table, bucket, version, hash);
         }
     }
 
