@@ -1,5 +1,5 @@
 -- A version's entry goes: from behind another one, from the front of its bucket, or as the last of its table.
-use Rattle.std.proofs.Common.{◌≡◌, ◌≢◌, ◌<◌, ◌≤◌, ◌+◌, ◌⊎◌, ◌↔◌, ◌++◌, ℕ, zero, suc, List, [], ◌∷◌, length, map, slice_get, slice_set, get_or, drop, ◌==◌, ◌&&◌, Bool, true, false, eq-eqb, Some, inl, inr, refl, sym, ap, subst, ◌∙◌, arith}
+use Rattle.std.proofs.Common.{◌≡◌, ◌≢◌, ◌<◌, ◌≤◌, ◌+◌, ◌⊎◌, ◌↔◌, ◌++◌, ℕ, zero, suc, List, [], ◌∷◌, length, map, slice_get, slice_set, get_or, drop, ◌==◌, ◌&&◌, Bool, true, false, eq-eqb, Option, Some, IsSome, inl, inr, refl, sym, ap, subst, ◌∙◌, ◌^◌, arith, rules}
 use Rattle.std.proofs.lemmas.List.{append_assoc}
 use Rattle.std.specs.List.{list_all}
 use borrow.Author.Tests.{eqb-true}
@@ -7,10 +7,11 @@ use Rattle.rdb_pages.specs.declared.cell.Cell.{Cell}
 use Rattle.rdb_pages.specs.declared.cell.CellRef.{CellRef}
 use Rattle.rdb_pages.specs.Pages.{zero_cell}
 use Rattle.rdb_cells.specs.declared.formats.hash.HashEntry.{HashEntry as EntryValue}
+use Rattle.rdb_cells.specs.declared.kind.Kind.{Kind}
 use Rattle.rdb_cells.specs.declared.kind.Kind.TheVariants as kind
 use Rattle.rdb_cells.specs.HashFormat.{table_in, hash_entry_in, table_buckets}
 use Rattle.rdb_cells.specs.HeadFormat.{index_head_in, index_roots}
-use Rattle.rdb_cells.specs.Images.{Image, Writes}
+use Rattle.rdb_cells.specs.Images.{Image, IsCell, Writes}
 use Rattle.rdb_cells.specs.Keys.{Meaning, says}
 use Rattle.rdb_cells.specs.Links.{IsAmong, AreOnce, Node, Placed, Stand, StandApart, IsHeld, numbers, start, segment}
 use Rattle.rdb_cells.specs.References.{IsPageCell}
@@ -32,7 +33,7 @@ use Rattle.rdb_hash.proofs.FrameLemmas.{frame, entry_goes, entry_leads, table_le
 use Rattle.rdb_hash.proofs.ListPlaces.{get_here, set_mapped, map_set, same_mapped}
 use Rattle.rdb_hash.proofs.PutLemmas.{head_no_table, head_no_node}
 use Rattle.rdb_hash.proofs.ShapeLemmas.{Around, around, bucket_nodes_append, functional, buckets_of, table_of, tables_of, behind, nodes_of, nodes_are, table_shaped, entries_here, apart_around, paged_around, is_bucket}
-use Rattle.rdb_hash.proofs.TableLemmas.{root_there, table_read, none_both, none_begins, same_cell}
+use Rattle.rdb_hash.proofs.TableLemmas.{start_small, root_there, table_read, none_both, none_begins, same_cell}
 use Rattle.rdb_hash.proofs.WalkLemmas.{held_there, entry_there, written_there, entries_parts, entries_together}
 
 cells_append : (xs ys : List (Placed Held)) → cells_of (xs ++ ys) ≡ cells_of xs ++ cells_of ys
@@ -49,6 +50,9 @@ entry_no_head : (image : Image) (n m : ℕ) → HasKind image kind.HashEntry n �
 entry_no_head image n m entry top same =
     let e = one_kind image kind.HashEntry kind.IndexHead m (subst (HasKind image kind.HashEntry) same entry) top in
     absurd (omega arith)
+
+kind_there : (image : Image) (of : Kind) (n : ℕ) → HasKind image of n → IsCell image n
+kind_there image of n has = subst (λ (o : Option Cell). IsSome o) (sym has.1) (search rules)
 
 no_own : (k n : ℕ) → k ≡ 0 → ¬ IsAmong (own_cells k) n
 no_own zero n none own = own
@@ -129,6 +133,15 @@ module _ (class : ℕ) (head version : CellRef) (table word : ℕ) (w : Work) (f
   edits_1 : Edits w gone_1 (found.at.number ∷ [])
   edits_1 = edit_more w w [] (no_edits w) found.at zero_cell (none_of_kind (reading w) kind.HashEntry found.at.number entry_kind bare_entry) (never_left w kind.HashEntry found.at.number entry_kind (λ e. absurd (omega arith))) bare_zero
 
+  pub entry_there_cell : IsCell (reading w) found.at.number
+  entry_there_cell = kind_there (reading w) kind.HashEntry found.at.number entry_kind
+
+  -- the next entry's reference fits 24 bits
+  pub next_small : found.next.number < 2 ^ 24
+  next_small = subst (λ (n : ℕ). n < 2 ^ 24) (sym is_in.at.next) (start_small is_in.at.back (λ n within. is_in.at.is.paged n
+      (subst (λ (ns : List ℕ). IsAmong ns n) (sym (numbers_segment (is_in.at.front ++ record { number = found.at.number; element = Entry version is_in.at.hash } ∷ is_in.at.back) ∙ cells_append is_in.at.front (record { number = found.at.number; element = Entry version is_in.at.hash } ∷ is_in.at.back)))
+      (among_back (cells_of is_in.at.front) (found.at.number ∷ cells_of is_in.at.back) n (inr (subst (λ (ns : List ℕ). IsAmong ns n) (numbers_segment is_in.at.back) within))))))
+
   -- the tables round its bucket
   module _ (a : Around) (are : AreTables (reading w) head.number (tables_of a)) (table_is : length a.front ≡ table) (place_is : length a.left ≡ word) where
     table_at : slice_get (tables_of a) table ≡ Some (table_of a)
@@ -138,7 +151,7 @@ module _ (class : ℕ) (head version : CellRef) (table word : ℕ) (w : Work) (f
     bucket_at = ap (slice_get (buckets_of a)) (sym place_is) ∙ get_here a.left a.bucket a.right
 
     begins_here : is_in.first ≡ start a.bucket 0
-    begins_here = is_in.begins (tables_of a) a.bucket are (table_of at.a, table_at, bucket_at)
+    begins_here = is_in.begins (tables_of a) a.bucket are (table_of a, table_at, bucket_at)
 
     chain_is : a.bucket ≡ front ++ entry ∷ back
     chain_is =
@@ -199,16 +212,7 @@ module _ (class : ℕ) (head version : CellRef) (table word : ℕ) (w : Work) (f
     paged_still number n own within = paged_around (reading w) head.number a are n (came number n own (subst (λ (xs : List (Node Held)). IsAmong (numbers xs) n) (nodes_are (changed a number (front ++ back))) within))
 
   -- from behind another entry
-  module _ (old led : Cell) (some : found.before.number ≢ 0)
-      (old_is : reading w found.before.number ≡ Some old)
-      (led_kind : IsOfKind led kind.HashEntry)
-      (led_says : hash_entry_in led ≡ record { next = found.next; version = (hash_entry_in old).version; hash = (hash_entry_in old).hash }) where
-    abbrev pub gone_behind : Work
-    gone_behind = put_work gone_1 found.before led
-
-    wrote_2 : Writes (reading gone_1) (reading gone_behind) found.before.number led
-    wrote_2 = put_reads gone_1 found.before led
-
+  module _ (some : found.before.number ≢ 0) where
     -- the one before it
     previous : (fs : List (Placed Held)) × (p : Placed Held) × (front ≡ fs ++ p ∷ []) × (found.before.number ≡ p.number)
     previous = elim is_in.at.before [
@@ -232,110 +236,123 @@ module _ (class : ℕ) (head version : CellRef) (table word : ℕ) (w : Work) (f
         (once_without (cells_of previous.0) previous.1.number (found.at.number ∷ cells_of back) once).1
         (among_back (cells_of previous.0) (found.at.number ∷ cells_of back) previous.1.number (inl (sym same ∙ previous.3)))
 
-    edits_behind : Edits w gone_behind (found.before.number ∷ found.at.number ∷ [])
-    edits_behind = edit_more w gone_1 (found.at.number ∷ []) edits_1 found.before led (none_of_kind (reading w) kind.HashEntry found.before.number before_kind bare_entry) (never_left w kind.HashEntry found.before.number before_kind (λ e. absurd (omega arith))) (bare_entry led led_kind)
+    pub before_there : IsCell (reading w) found.before.number
+    before_there = kind_there (reading w) kind.HashEntry found.before.number before_kind
 
-    module _ (a : Around) (are : AreTables (reading w) head.number (tables_of a)) (table_is : length a.front ≡ table) (place_is : length a.left ≡ word) where
-      starts_same : (gs : List (Placed Held)) (q : Placed Held) → start ((gs ++ q ∷ []) ++ back) 0 ≡ start ((gs ++ q ∷ []) ++ entry ∷ back) 0
-      starts_same [] q = refl
-      starts_same (g ∷ gs) q = refl
+    module _ (old led : Cell)
+        (old_is : reading w found.before.number ≡ Some old)
+        (led_kind : IsOfKind led kind.HashEntry)
+        (led_says : hash_entry_in led ≡ record { next = found.next; version = (hash_entry_in old).version; hash = (hash_entry_in old).hash }) where
+      abbrev pub gone_behind : Work
+      gone_behind = put_work gone_1 found.before led
 
-      links_same : starts (buckets_of a) ≡ starts (buckets_of (changed a a.number (front ++ back)))
-      links_same =
-          sym (same_mapped (λ (c : List (Placed Held)). start c 0) a.left a.bucket (front ++ back) a.right
-          (ap (λ (xs : List (Placed Held)). start (xs ++ back) 0) previous.2 ∙ starts_same previous.0 previous.1
-          ∙ sym (ap (λ (c : List (Placed Held)). start c 0) (chain_is a are table_is place_is ∙ ap (λ (xs : List (Placed Held)). xs ++ entry ∷ back) previous.2))))
+      wrote_2 : Writes (reading gone_1) (reading gone_behind) found.before.number led
+      wrote_2 = put_reads gone_1 found.before led
 
-      some_left : (gs : List (Placed Held)) (q : Placed Held) → bucket_nodes (a.left ++ ((gs ++ q ∷ []) ++ back) ∷ a.right) ≢ []
-      some_left [] q = some_nodes a.left q back a.right
-      some_left (g ∷ gs) q = some_nodes a.left g ((gs ++ q ∷ []) ++ back) a.right
+      edits_behind : Edits w gone_behind (found.before.number ∷ found.at.number ∷ [])
+      edits_behind = edit_more w gone_1 (found.at.number ∷ []) edits_1 found.before led (none_of_kind (reading w) kind.HashEntry found.before.number before_kind bare_entry) (never_left w kind.HashEntry found.before.number before_kind (λ e. absurd (omega arith))) (bare_entry led led_kind)
 
-      written_now : IsWritten led previous.1.element (start back 0 ∷ [])
-      written_now =
-          let entry_p = entry_there (reading w) is_in.first is_in.at.bucket previous.0 previous.1 (entry ∷ back) bucket_there in
-          let was = written_there (reading w) is_in.first is_in.at.bucket previous.0 previous.1 (entry ∷ back) bucket_there old (ap (reading w) (sym previous.3) ∙ old_is) in
-          subst (λ (e : Held). IsWritten led e (start back 0 ∷ [])) (sym entry_p.2) (record {
-            kind = led_kind;
-            of_version = ap (λ (e : EntryValue). e.version) led_says ∙ was.of_version;
-            has_hash = ap (λ (e : EntryValue). e.hash) led_says ∙ was.has_hash;
-            leads = ap (λ (e : EntryValue). e.next.number ∷ []) led_says ∙ ap (λ (n : ℕ). n ∷ []) is_in.at.next;
-          })
+      module _ (a : Around) (are : AreTables (reading w) head.number (tables_of a)) (table_is : length a.front ≡ table) (place_is : length a.left ≡ word) where
+        starts_same : (gs : List (Placed Held)) (q : Placed Held) → start ((gs ++ q ∷ []) ++ back) 0 ≡ start ((gs ++ q ∷ []) ++ entry ∷ back) 0
+        starts_same [] q = refl
+        starts_same (g ∷ gs) q = refl
 
-      apart_now : StandApart IsWritten (reading gone_behind) (nodes_of (changed a a.number (front ++ back)))
-      apart_now =
-          let own = own_node a.number (starts (buckets_of a)) in
-          let rest = segment back 0 ++ behind a in
-          let x : Node Held = record { number = previous.1.number; element = previous.1.element; links = found.at.number ∷ [] } in
-          let y : Node Held = record { number = previous.1.number; element = previous.1.element; links = start back 0 ∷ [] } in
-          let split : segment front found.at.number ++ rest ≡ segment previous.0 previous.1.number ++ x ∷ rest =
-              ap (λ (xs : List (Placed Held)). segment xs found.at.number ++ rest) previous.2
-              ∙ ap (λ (xs : List (Node Held)). xs ++ rest) (segment_append previous.0 (previous.1 ∷ []) found.at.number)
-              ∙ append_assoc (segment previous.0 previous.1.number) (x ∷ []) rest in
-          let joined : segment previous.0 previous.1.number ++ y ∷ rest ≡ segment (front ++ back) 0 ++ behind a =
-              sym (append_assoc (segment previous.0 previous.1.number) (y ∷ segment back 0) (behind a))
-              ∙ ap (λ (xs : List (Node Held)). xs ++ behind a) (sym (segment_append previous.0 (previous.1 ∷ back) 0))
-              ∙ ap (λ (xs : List (Placed Held)). segment xs 0 ++ behind a) (sym (ap (λ (xs : List (Placed Held)). xs ++ back) previous.2 ∙ append_assoc previous.0 (previous.1 ∷ []) back)) in
-          let led_apart = entry_leads (hash_nodes a.front) (bucket_nodes a.left) own (segment previous.0 previous.1.number) x rest (reading gone_1) (reading gone_behind) found.before.number led wrote_2 y (sym previous.3) (sym previous.3) written_now
-              (subst (λ (xs : List (Node Held)). StandApart IsWritten (reading gone_1) (frame (hash_nodes a.front) own (bucket_nodes a.left) xs)) split (apart_1 a are table_is place_is)) in
-          subst (λ (links : List ℕ). StandApart IsWritten (reading gone_behind) (frame (hash_nodes a.front) (own_node a.number links) (bucket_nodes a.left) (segment (front ++ back) 0 ++ behind a))) links_same
-          (subst (λ (xs : List (Node Held)). StandApart IsWritten (reading gone_behind) (frame (hash_nodes a.front) own (bucket_nodes a.left) xs)) joined led_apart)
+        links_same : starts (buckets_of a) ≡ starts (buckets_of (changed a a.number (front ++ back)))
+        links_same =
+            sym (same_mapped (λ (c : List (Placed Held)). start c 0) a.left a.bucket (front ++ back) a.right
+            (ap (λ (xs : List (Placed Held)). start (xs ++ back) 0) previous.2 ∙ starts_same previous.0 previous.1
+            ∙ sym (ap (λ (c : List (Placed Held)). start c 0) (chain_is a are table_is place_is ∙ ap (λ (xs : List (Placed Held)). xs ++ entry ∷ back) previous.2))))
 
-      zero_behind : reading gone_behind found.at.number ≡ Some zero_cell
-      zero_behind = wrote_2.elsewhere found.at.number (λ same. before_apart (sym same)) ∙ wrote_1.here
+        some_left : (gs : List (Placed Held)) (q : Placed Held) → bucket_nodes (a.left ++ ((gs ++ q ∷ []) ++ back) ∷ a.right) ≢ []
+        some_left [] q = some_nodes a.left q back a.right
+        some_left (g ∷ gs) q = some_nodes a.left g ((gs ++ q ∷ []) ++ back) a.right
 
-      before_among : IsAmong (cells_of a.bucket) found.before.number
-      before_among =
-          subst (λ (b : List (Placed Held)). IsAmong (cells_of b) found.before.number) (sym (chain_is a are table_is place_is ∙ whole_chain))
-          (subst (λ (ns : List ℕ). IsAmong ns found.before.number) (sym (cells_append previous.0 (previous.1 ∷ entry ∷ back)))
-          (among_back (cells_of previous.0) (previous.1.number ∷ found.at.number ∷ cells_of back) found.before.number (inl (sym previous.3))))
+        written_now : IsWritten led previous.1.element (start back 0 ∷ [])
+        written_now =
+            let entry_p = entry_there (reading w) is_in.first is_in.at.bucket previous.0 previous.1 (entry ∷ back) bucket_there in
+            let was = written_there (reading w) is_in.first is_in.at.bucket previous.0 previous.1 (entry ∷ back) bucket_there old (ap (reading w) (sym previous.3) ∙ old_is) in
+            subst (λ (e : Held). IsWritten led e (start back 0 ∷ [])) (sym entry_p.2) (record {
+              kind = led_kind;
+              of_version = ap (λ (e : EntryValue). e.version) led_says ∙ was.of_version;
+              has_hash = ap (λ (e : EntryValue). e.hash) led_says ∙ was.has_hash;
+              leads = ap (λ (e : EntryValue). e.next.number ∷ []) led_says ∙ ap (λ (n : ℕ). n ∷ []) is_in.at.next;
+            })
 
-      are_behind : AreTables (reading gone_behind) head.number (tables_of (changed a a.number (front ++ back)))
-      are_behind = record {
-        leads = record {
-          cell = are.leads.cell;
-          here = edits_behind.elsewhere head.number (λ among. elim among [
-            | inl same ↦ entry_no_head (reading w) found.before.number head.number before_kind head_kind same
-            | inr (inl same) ↦ entry_no_head (reading w) found.at.number head.number entry_kind head_kind same
-            | inr (inr none) ↦ none
-          ]) ∙ are.leads.here;
-          kind = are.leads.kind;
-          leads = are.leads.leads ∙ sym (same_mapped (λ (u : Table). u.number) a.front (table_of a) (table_of (changed a a.number (front ++ back))) a.back refl);
-        };
-        apart = subst (λ (xs : List (Node Held)). StandApart IsWritten (reading gone_behind) xs) (sym (nodes_are (changed a a.number (front ++ back)))) apart_now;
-        shaped = shaped_now a a.number (front ++ back) are.shaped (shaped a are table_is place_is)
-            ((λ none. absurd (number_some a are table_is place_is none)), (λ none. absurd (some_left previous.0 previous.1 (subst (λ (xs : List (Placed Held)). bucket_nodes (a.left ++ (xs ++ back) ∷ a.right) ≡ []) previous.2 none))))
-            (rest_entries a are table_is place_is);
-        paged = λ n within. paged_still a are table_is place_is a.number n (λ own. own) within;
-      }
+        apart_now : StandApart IsWritten (reading gone_behind) (nodes_of (changed a a.number (front ++ back)))
+        apart_now =
+            let own = own_node a.number (starts (buckets_of a)) in
+            let rest = segment back 0 ++ behind a in
+            let x : Node Held = record { number = previous.1.number; element = previous.1.element; links = found.at.number ∷ [] } in
+            let y : Node Held = record { number = previous.1.number; element = previous.1.element; links = start back 0 ∷ [] } in
+            let split : segment front found.at.number ++ rest ≡ segment previous.0 previous.1.number ++ x ∷ rest =
+                ap (λ (xs : List (Placed Held)). segment xs found.at.number ++ rest) previous.2
+                ∙ ap (λ (xs : List (Node Held)). xs ++ rest) (segment_append previous.0 (previous.1 ∷ []) found.at.number)
+                ∙ append_assoc (segment previous.0 previous.1.number) (x ∷ []) rest in
+            let joined : segment previous.0 previous.1.number ++ y ∷ rest ≡ segment (front ++ back) 0 ++ behind a =
+                sym (append_assoc (segment previous.0 previous.1.number) (y ∷ segment back 0) (behind a))
+                ∙ ap (λ (xs : List (Node Held)). xs ++ behind a) (sym (segment_append previous.0 (previous.1 ∷ back) 0))
+                ∙ ap (λ (xs : List (Placed Held)). segment xs 0 ++ behind a) (sym (ap (λ (xs : List (Placed Held)). xs ++ back) previous.2 ∙ append_assoc previous.0 (previous.1 ∷ []) back)) in
+            let led_apart = entry_leads (hash_nodes a.front) (bucket_nodes a.left) own (segment previous.0 previous.1.number) x rest (reading gone_1) (reading gone_behind) found.before.number led wrote_2 y (sym previous.3) (sym previous.3) written_now
+                (subst (λ (xs : List (Node Held)). StandApart IsWritten (reading gone_1) (frame (hash_nodes a.front) own (bucket_nodes a.left) xs)) split (apart_1 a are table_is place_is)) in
+            subst (λ (links : List ℕ). StandApart IsWritten (reading gone_behind) (frame (hash_nodes a.front) (own_node a.number links) (bucket_nodes a.left) (segment (front ++ back) 0 ++ behind a))) links_same
+            (subst (λ (xs : List (Node Held)). StandApart IsWritten (reading gone_behind) (frame (hash_nodes a.front) own (bucket_nodes a.left) xs)) joined led_apart)
 
-    goes_behind : (keys : Meaning) (listed : List CellRef) (nodes : List ℕ) → IsHash head.number (says keys (reading w)) (reading w) listed nodes → Goes head.number keys w gone_behind (found.before.number ∷ found.at.number ∷ []) version table word listed nodes
-    goes_behind keys listed nodes stands =
-        let t = hash_around head.number (says keys (reading w)) (reading w) listed nodes table word stands table_small word_small in
-        record {
-          at = t;
-          number = t.a.number;
-          front = front;
-          entry = found.at.number;
-          hash = is_in.at.hash;
-          back = back;
-          bucket_is = chain_is t.a t.are t.table_is t.place_is;
-          are = are_behind t.a t.are t.table_is t.place_is;
-          own = λ n among. elim among [
-            | inl same ↦ inr (by_bucket t.a n (subst (λ (k : ℕ). IsAmong (cells_of t.a.bucket) k) same (before_among t.a t.are t.table_is t.place_is)))
-            | inr (inl same) ↦ inr (by_bucket t.a n (subst (λ (k : ℕ). IsAmong (cells_of t.a.bucket) k) same (entry_among t.a t.are t.table_is t.place_is)))
-            | inr (inr none) ↦ absurd none
-          ];
-          come = λ n within. came t.a t.are t.table_is t.place_is t.a.number n (λ own. own) within;
-          gone = λ n within. went t.a t.are t.table_is t.place_is t.a.number n (reading gone_behind n ≡ Some zero_cell) (λ own. inl own) (λ same. ap (reading gone_behind) (sym same) ∙ zero_behind t.a t.are t.table_is t.place_is) within;
-          filled = λ n blank among. elim among [
-            | inl same ↦ apart_from_free (reading w) kind.HashEntry found.before.number n before_kind (λ e. absurd (omega arith)) blank.zero (sym same)
-            | inr (inl same) ↦ apart_from_free (reading w) kind.HashEntry found.at.number n entry_kind (λ e. absurd (omega arith)) blank.zero (sym same)
-            | inr (inr none) ↦ none
-          ];
+        zero_behind : reading gone_behind found.at.number ≡ Some zero_cell
+        zero_behind = wrote_2.elsewhere found.at.number (λ same. before_apart (sym same)) ∙ wrote_1.here
+
+        before_among : IsAmong (cells_of a.bucket) found.before.number
+        before_among =
+            subst (λ (b : List (Placed Held)). IsAmong (cells_of b) found.before.number) (sym (chain_is a are table_is place_is ∙ whole_chain))
+            (subst (λ (ns : List ℕ). IsAmong ns found.before.number) (sym (cells_append previous.0 (previous.1 ∷ entry ∷ back)))
+            (among_back (cells_of previous.0) (previous.1.number ∷ found.at.number ∷ cells_of back) found.before.number (inl (sym previous.3))))
+
+        are_behind : AreTables (reading gone_behind) head.number (tables_of (changed a a.number (front ++ back)))
+        are_behind = record {
+          leads = record {
+            cell = are.leads.cell;
+            here = edits_behind.elsewhere head.number (λ among. elim among [
+              | inl same ↦ entry_no_head (reading w) found.before.number head.number before_kind head_kind same
+              | inr (inl same) ↦ entry_no_head (reading w) found.at.number head.number entry_kind head_kind same
+              | inr (inr none) ↦ none
+            ]) ∙ are.leads.here;
+            kind = are.leads.kind;
+            leads = are.leads.leads ∙ sym (same_mapped (λ (u : Table). u.number) a.front (table_of a) (table_of (changed a a.number (front ++ back))) a.back refl);
+          };
+          apart = subst (λ (xs : List (Node Held)). StandApart IsWritten (reading gone_behind) xs) (sym (nodes_are (changed a a.number (front ++ back)))) apart_now;
+          shaped = shaped_now a a.number (front ++ back) are.shaped (shaped a are table_is place_is)
+              ((λ none. absurd (number_some a are table_is place_is none)), (λ none. absurd (some_left previous.0 previous.1 (subst (λ (xs : List (Placed Held)). bucket_nodes (a.left ++ (xs ++ back) ∷ a.right) ≡ []) previous.2 none))))
+              (rest_entries a are table_is place_is);
+          paged = λ n within. paged_still a are table_is place_is a.number n (λ own. own) within;
         }
 
-    pub take_behind : IsRemovedByAny (hash_nature class head.number) w gone_behind version
-    take_behind keys rests = is_removed class head.number keys rests w gone_behind (found.before.number ∷ found.at.number ∷ []) version table word edits_behind (omega arith) (goes_behind keys)
+      goes_behind : (keys : Meaning) (listed : List CellRef) (nodes : List ℕ) → IsHash head.number (says keys (reading w)) (reading w) listed nodes → Goes head.number keys w gone_behind (found.before.number ∷ found.at.number ∷ []) version table word listed nodes
+      goes_behind keys listed nodes stands =
+          let t = hash_around head.number (says keys (reading w)) (reading w) listed nodes table word stands table_small word_small in
+          record {
+            at = t;
+            number = t.a.number;
+            front = front;
+            entry = found.at.number;
+            hash = is_in.at.hash;
+            back = back;
+            bucket_is = chain_is t.a t.are t.table_is t.place_is;
+            are = are_behind t.a t.are t.table_is t.place_is;
+            own = λ n among. elim among [
+              | inl same ↦ inr (by_bucket t.a n (subst (λ (k : ℕ). IsAmong (cells_of t.a.bucket) k) same (before_among t.a t.are t.table_is t.place_is)))
+              | inr (inl same) ↦ inr (by_bucket t.a n (subst (λ (k : ℕ). IsAmong (cells_of t.a.bucket) k) same (entry_among t.a t.are t.table_is t.place_is)))
+              | inr (inr none) ↦ absurd none
+            ];
+            come = λ n within. came t.a t.are t.table_is t.place_is t.a.number n (λ own. own) within;
+            gone = λ n within. went t.a t.are t.table_is t.place_is t.a.number n (reading gone_behind n ≡ Some zero_cell) (λ own. inl own) (λ same. ap (reading gone_behind) (sym same) ∙ zero_behind t.a t.are t.table_is t.place_is) within;
+            filled = λ n blank among. elim among [
+              | inl same ↦ apart_from_free (reading w) kind.HashEntry found.before.number n before_kind (λ e. absurd (omega arith)) blank.zero (sym same)
+              | inr (inl same) ↦ apart_from_free (reading w) kind.HashEntry found.at.number n entry_kind (λ e. absurd (omega arith)) blank.zero (sym same)
+              | inr (inr none) ↦ none
+            ];
+          }
+
+      pub take_behind : IsRemovedByAny (hash_nature class head.number) w gone_behind version
+      take_behind keys rests = is_removed class head.number keys rests w gone_behind (found.before.number ∷ found.at.number ∷ []) version table word edits_behind (omega arith) (goes_behind keys)
 
   -- from the front of its bucket
   module _ (top old : Cell) (root : CellRef) (first : found.before.number ≡ 0)

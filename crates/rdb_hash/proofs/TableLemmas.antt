@@ -92,7 +92,7 @@ pub head_there : (image : Image) (head : ℕ) → HasTables image head → IsCel
 head_there image head has = subst (λ (o : Option Cell). IsSome o) (sym has.1.leads.here) (search rules)
 
 -- where a bucket begins fits 24 bits
-start_small : (b : List (Placed Held)) → ((n : ℕ) → IsAmong (numbers (segment b 0)) n → IsPageCell n) → start b 0 < 2 ^ 24
+pub start_small : (b : List (Placed Held)) → ((n : ℕ) → IsAmong (numbers (segment b 0)) n → IsPageCell n) → start b 0 < 2 ^ 24
 start_small [] paged = omega arith
 start_small (p ∷ ps) paged = let page = (paged p.number (inl refl)).1 in omega arith
 
