@@ -14,4 +14,6 @@ pub mod ChangeLemmas
 pub mod FinishLemmas
 pub mod PutLemmas
 pub mod NewTableLemmas
+pub mod EmptyLemmas
+pub mod ListLemmas
 pub mod RemoveLemmas

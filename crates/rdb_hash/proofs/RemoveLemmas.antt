@@ -27,81 +27,15 @@ use Rattle.rdb_hash.specs.Shape.{Held, Entry, Table, IsHash, AreTables, IsTable,
 use Rattle.rdb_hash.specs.Walks.{HasTables, IsBucket, IsAt, IsLast}
 use Rattle.rdb_hash.proofs.AroundLemmas.{IsAround, hash_around}
 use Rattle.rdb_hash.proofs.ChangeLemmas.{own_cells, cells_of, own_among, own_only, numbers_segment, by_own, by_bucket, transfer, changed, some_nodes, shaped_now}
+use Rattle.rdb_hash.proofs.EmptyLemmas.{cells_append, entry_no_table, entry_no_head, kind_there, chain_kind, all_none, not_all_none, table_stand}
 use Rattle.rdb_hash.proofs.EditLemmas.{Edits, no_edits, edit_more, bare_table, bare_entry, bare_head, bare_zero, none_of_kind, apart_from_free, never_left}
 use Rattle.rdb_hash.proofs.FinishLemmas.{Goes, is_removed}
 use Rattle.rdb_hash.proofs.FrameLemmas.{frame, entry_goes, entry_leads, table_leads, table_goes}
 use Rattle.rdb_hash.proofs.ListPlaces.{get_here, set_mapped, map_set, same_mapped}
 use Rattle.rdb_hash.proofs.PutLemmas.{head_no_table, head_no_node}
 use Rattle.rdb_hash.proofs.ShapeLemmas.{Around, around, bucket_nodes_append, functional, buckets_of, table_of, tables_of, behind, nodes_of, nodes_are, table_shaped, entries_here, apart_around, paged_around, is_bucket}
-use Rattle.rdb_hash.proofs.TableLemmas.{start_small, root_there, table_read, none_both, none_begins, same_cell}
+use Rattle.rdb_hash.proofs.TableLemmas.{start_small, is_there, root_there, table_read, none_both, none_begins, same_cell}
 use Rattle.rdb_hash.proofs.WalkLemmas.{held_there, entry_there, written_there, entries_parts, entries_together}
-
-cells_append : (xs ys : List (Placed Held)) → cells_of (xs ++ ys) ≡ cells_of xs ++ cells_of ys
-cells_append [] ys = refl
-cells_append (x ∷ xs) ys = ap (λ (ns : List ℕ). x.number ∷ ns) (cells_append xs ys)
-
--- two kinds, two cells
-entry_no_table : (image : Image) (n m : ℕ) → HasKind image kind.HashEntry n → HasKind image kind.HashTable m → n ≢ m
-entry_no_table image n m entry table same =
-    let e = one_kind image kind.HashEntry kind.HashTable m (subst (HasKind image kind.HashEntry) same entry) table in
-    absurd (omega arith)
-
-entry_no_head : (image : Image) (n m : ℕ) → HasKind image kind.HashEntry n → HasKind image kind.IndexHead m → n ≢ m
-entry_no_head image n m entry top same =
-    let e = one_kind image kind.HashEntry kind.IndexHead m (subst (HasKind image kind.HashEntry) same entry) top in
-    absurd (omega arith)
-
-kind_there : (image : Image) (of : Kind) (n : ℕ) → HasKind image of n → IsCell image n
-kind_there image of n has = subst (λ (o : Option Cell). IsSome o) (sym has.1) (search rules)
-
-no_own : (k n : ℕ) → k ≡ 0 → ¬ IsAmong (own_cells k) n
-no_own zero n none own = own
-no_own (suc k) n none own = cc
-
--- an entry of a chain is one
-chain_kind : (image : Image) (first bucket : ℕ) (front : List (Placed Held)) (p : Placed Held) (back : List (Placed Held)) → IsBucket image first bucket (front ++ p ∷ back) → HasKind image kind.HashEntry p.number
-chain_kind image first bucket front p back is =
-    let held = held_there image first bucket front p back is in
-    let entry = entry_there image first bucket front p back is in
-    let written = subst (λ (e : Held). IsWritten held.cell e (start back 0 ∷ [])) entry.2 held.written in
-    (held.cell, held.here, written.kind)
-
--- buckets that begin nowhere have no entries, and those without entries begin nowhere
-all_none : (image : Image) (rs : List CellRef) (bs : List (List (Placed Held))) → map (λ (r : CellRef). r.number) rs ≡ starts bs → list_all (λ (r : CellRef). r.number == 0) rs ≡ true → Stand IsWritten image (bucket_nodes bs) → bucket_nodes bs ≡ []
-all_none image [] [] same none stand = refl
-all_none image [] (b ∷ bs) same none stand = cc
-all_none image (r ∷ rs) [] same none stand = cc
-all_none image (r ∷ rs) (b ∷ bs) same none stand =
-    let both = two_true (r.number == 0) (list_all (λ (q : CellRef). q.number == 0) rs) none in
-    let parts = stand_parts IsWritten image (segment b 0) (bucket_nodes bs) stand in
-    let begins : start b 0 ≡ 0 = sym (ap (λ (ns : List ℕ). get_or ns 0 0) same) ∙ eqb-true r.number 0 both.0 in
-    let empty = empty_chain IsWritten image b begins parts.0 in
-    let rest = all_none image rs bs (ap (λ (ns : List ℕ). drop 1 ns) same) both.1 parts.1 in
-    ap (λ (c : List (Placed Held)). segment c 0 ++ bucket_nodes bs) empty ∙ rest
-  where
-    two_true : (p q : Bool) → (p && q) ≡ true → (p ≡ true) × (q ≡ true)
-    two_true true q both = (refl, both)
-    two_true false q both = cc
-
-not_all_none : (rs : List CellRef) (bs : List (List (Placed Held))) → map (λ (r : CellRef). r.number) rs ≡ starts bs → list_all (λ (r : CellRef). r.number == 0) rs ≡ false → bucket_nodes bs ≢ []
-not_all_none [] bs same some none = cc
-not_all_none (r ∷ rs) [] same some none = cc
-not_all_none (r ∷ rs) (b ∷ bs) same some none =
-    let both = none_both (segment b 0) (bucket_nodes bs) none in
-    let zero : r.number ≡ 0 = ap (λ (ns : List ℕ). get_or ns 0 0) same ∙ none_begins b both.0 in
-    not_all_none rs bs (ap (λ (ns : List ℕ). drop 1 ns) same)
-    (sym (ap (λ (t : Bool). t && list_all (λ (q : CellRef). q.number == 0) rs) (eq-eqb r.number 0 zero)) ∙ some) both.1
-
--- the entries of a table's buckets stand
-table_stand : (image : Image) (a : Around) → Stand IsWritten image (nodes_of a) → Stand IsWritten image (bucket_nodes (buckets_of a))
-table_stand image a stand =
-    let own = own_node a.number (starts (buckets_of a)) in
-    let inner = (stand_parts IsWritten image own (bucket_nodes a.left ++ (segment a.bucket 0 ++ behind a)) (stand_parts IsWritten image (hash_nodes a.front) (own ++ (bucket_nodes a.left ++ (segment a.bucket 0 ++ behind a))) stand).1).1 in
-    let left = stand_parts IsWritten image (bucket_nodes a.left) (segment a.bucket 0 ++ behind a) inner in
-    let bucket = stand_parts IsWritten image (segment a.bucket 0) (behind a) left.1 in
-    let right = (stand_parts IsWritten image (bucket_nodes a.right) (hash_nodes a.back) bucket.1).0 in
-    subst (λ (xs : List (Node Held)). Stand IsWritten image xs) (sym (bucket_nodes_append a.left (a.bucket ∷ a.right)))
-    (stand_together IsWritten image (bucket_nodes a.left) (segment a.bucket 0 ++ bucket_nodes a.right) left.0 (stand_together IsWritten image (segment a.bucket 0) (bucket_nodes a.right) bucket.0 right))
 
 -- the entry that was found, in any listing
 module _ (class : ℕ) (head version : CellRef) (table word : ℕ) (w : Work) (found : Found)
@@ -355,10 +289,9 @@ module _ (class : ℕ) (head version : CellRef) (table word : ℕ) (w : Work) (f
       take_behind keys rests = is_removed class head.number keys rests w gone_behind (found.before.number ∷ found.at.number ∷ []) version table word edits_behind (omega arith) (goes_behind keys)
 
   -- from the front of its bucket
-  module _ (top old : Cell) (root : CellRef) (first : found.before.number ≡ 0)
+  module _ (first : found.before.number ≡ 0) (top : Cell) (root : CellRef)
       (top_is : reading w head.number ≡ Some top)
-      (root_is : slice_get (index_head_in top).roots table ≡ Some root)
-      (old_is : reading w root.number ≡ Some old) where
+      (root_is : slice_get (index_head_in top).roots table ≡ Some root) where
     front_none : front ≡ []
     front_none = elim is_in.at.before [
       | inl none ↦ none.0
@@ -382,187 +315,191 @@ module _ (class : ℕ) (head version : CellRef) (table word : ℕ) (w : Work) (f
     root_some : root.number ≢ 0
     root_some none = number_some some_tables.0 some_are some_tables.2 some_tables.3 (sym (root_same some_tables.0 some_are some_tables.2) ∙ none)
 
-    leads_old : (a : Around) → AreTables (reading w) head.number (tables_of a) → length a.front ≡ table → IsTableCell old (starts (buckets_of a))
-    leads_old a are table_is = table_read (reading w) head.number top top_is table root root_is (tables_of a) (table_of a) are (ap (slice_get (tables_of a)) (sym table_is) ∙ get_here a.front (table_of a) a.back) root_some old old_is
+    pub table_there_cell : IsCell (reading w) root.number
+    table_there_cell = is_there (reading w) head.number top top_is table root root_is table_small tables root_some
 
-    root_kind : HasKind (reading w) kind.HashTable root.number
-    root_kind = (old, old_is, (leads_old some_tables.0 some_are some_tables.2).kind)
+    module _ (old : Cell) (old_is : reading w root.number ≡ Some old) where
+      leads_old : (a : Around) → AreTables (reading w) head.number (tables_of a) → length a.front ≡ table → IsTableCell old (starts (buckets_of a))
+      leads_old a are table_is = table_read (reading w) head.number top top_is table root root_is (tables_of a) (table_of a) are (ap (slice_get (tables_of a)) (sym table_is) ∙ get_here a.front (table_of a) a.back) root_some old old_is
 
-    -- the table's buckets then
-    module _ (rest : List CellRef) (rest_is : rest ≡ slice_set (table_in old).buckets word found.next) (a : Around) (are : AreTables (reading w) head.number (tables_of a)) (table_is : length a.front ≡ table) (place_is : length a.left ≡ word) where
-      rest_leads : map (λ (r : CellRef). r.number) rest ≡ starts (a.left ++ (front ++ back) ∷ a.right)
-      rest_leads =
-          ap (λ (rs : List CellRef). map (λ (r : CellRef). r.number) rs) rest_is
-          ∙ map_set (λ (r : CellRef). r.number) (table_in old).buckets word found.next
-          ∙ ap (λ (ns : List ℕ). slice_set ns word found.next.number) (leads_old a are table_is).leads
-          ∙ ap (λ (i : ℕ). slice_set (starts (buckets_of a)) i found.next.number) (sym place_is)
-          ∙ set_mapped (λ (b : List (Placed Held)). start b 0) a.left a.bucket (front ++ back) a.right found.next.number
-          (ap (λ (xs : List (Placed Held)). start (xs ++ back) 0) front_none ∙ sym is_in.at.next)
+      root_kind : HasKind (reading w) kind.HashTable root.number
+      root_kind = (old, old_is, (leads_old some_tables.0 some_are some_tables.2).kind)
 
-      -- nodes with the table's links as they were
-      apart_front : StandApart IsWritten (reading gone_1) (frame (hash_nodes a.front) (own_node a.number (starts (buckets_of a))) (bucket_nodes a.left) (segment (front ++ back) 0 ++ behind a))
-      apart_front =
-          let own = own_node a.number (starts (buckets_of a)) in
-          let joined : segment front found.at.number ++ (segment back 0 ++ behind a) ≡ segment (front ++ back) 0 ++ behind a =
-              ap (λ (xs : List (Placed Held)). segment xs found.at.number ++ (segment back 0 ++ behind a)) front_none
-              ∙ ap (λ (xs : List (Placed Held)). segment (xs ++ back) 0 ++ behind a) (sym front_none) in
-          subst (λ (xs : List (Node Held)). StandApart IsWritten (reading gone_1) (frame (hash_nodes a.front) own (bucket_nodes a.left) xs)) joined (apart_1 a are table_is place_is)
+      -- the table's buckets then
+      module _ (rest : List CellRef) (rest_is : rest ≡ slice_set (table_in old).buckets word found.next) (a : Around) (are : AreTables (reading w) head.number (tables_of a)) (table_is : length a.front ≡ table) (place_is : length a.left ≡ word) where
+        rest_leads : map (λ (r : CellRef). r.number) rest ≡ starts (a.left ++ (front ++ back) ∷ a.right)
+        rest_leads =
+            ap (λ (rs : List CellRef). map (λ (r : CellRef). r.number) rs) rest_is
+            ∙ map_set (λ (r : CellRef). r.number) (table_in old).buckets word found.next
+            ∙ ap (λ (ns : List ℕ). slice_set ns word found.next.number) (leads_old a are table_is).leads
+            ∙ ap (λ (i : ℕ). slice_set (starts (buckets_of a)) i found.next.number) (sym place_is)
+            ∙ set_mapped (λ (b : List (Placed Held)). start b 0) a.left a.bucket (front ++ back) a.right found.next.number
+            (ap (λ (xs : List (Placed Held)). start (xs ++ back) 0) front_none ∙ sym is_in.at.next)
 
-    -- a table that keeps entries
-    module _ (new : Cell) (new_kind : IsOfKind new kind.HashTable) (rest : List CellRef) (rest_is : rest ≡ slice_set (table_in old).buckets word found.next) (new_says : (table_in new).buckets ≡ rest) (some_rest : list_all (λ (r : CellRef). r.number == 0) rest ≡ false) where
-      abbrev pub gone_first : Work
-      gone_first = put_work gone_1 root new
+        -- nodes with the table's links as they were
+        apart_front : StandApart IsWritten (reading gone_1) (frame (hash_nodes a.front) (own_node a.number (starts (buckets_of a))) (bucket_nodes a.left) (segment (front ++ back) 0 ++ behind a))
+        apart_front =
+            let own = own_node a.number (starts (buckets_of a)) in
+            let joined : segment front found.at.number ++ (segment back 0 ++ behind a) ≡ segment (front ++ back) 0 ++ behind a =
+                ap (λ (xs : List (Placed Held)). segment xs found.at.number ++ (segment back 0 ++ behind a)) front_none
+                ∙ ap (λ (xs : List (Placed Held)). segment (xs ++ back) 0 ++ behind a) (sym front_none) in
+            subst (λ (xs : List (Node Held)). StandApart IsWritten (reading gone_1) (frame (hash_nodes a.front) own (bucket_nodes a.left) xs)) joined (apart_1 a are table_is place_is)
 
-      wrote_table : Writes (reading gone_1) (reading gone_first) root.number new
-      wrote_table = put_reads gone_1 root new
+      -- a table that keeps entries
+      module _ (new : Cell) (new_kind : IsOfKind new kind.HashTable) (rest : List CellRef) (rest_is : rest ≡ slice_set (table_in old).buckets word found.next) (new_says : (table_in new).buckets ≡ rest) (some_rest : list_all (λ (r : CellRef). r.number == 0) rest ≡ false) where
+        abbrev pub gone_first : Work
+        gone_first = put_work gone_1 root new
 
-      edits_first : Edits w gone_first (root.number ∷ found.at.number ∷ [])
-      edits_first = edit_more w gone_1 (found.at.number ∷ []) edits_1 root new (none_of_kind (reading w) kind.HashTable root.number root_kind bare_table) (never_left w kind.HashTable root.number root_kind (λ e. absurd (omega arith))) (bare_table new new_kind)
+        wrote_table : Writes (reading gone_1) (reading gone_first) root.number new
+        wrote_table = put_reads gone_1 root new
 
-      are_first : (a : Around) → AreTables (reading w) head.number (tables_of a) → length a.front ≡ table → length a.left ≡ word → AreTables (reading gone_first) head.number (tables_of (changed a a.number (front ++ back)))
-      are_first a are table_is place_is = record {
-        leads = record {
-          cell = are.leads.cell;
-          here = edits_first.elsewhere head.number (λ among. elim among [
-            | inl same ↦ head_no_table (reading w) head.number root.number head_kind root_kind same
-            | inr (inl same) ↦ entry_no_head (reading w) found.at.number head.number entry_kind head_kind same
-            | inr (inr none) ↦ none
-          ]) ∙ are.leads.here;
-          kind = are.leads.kind;
-          leads = are.leads.leads ∙ sym (same_mapped (λ (u : Table). u.number) a.front (table_of a) (table_of (changed a a.number (front ++ back))) a.back refl);
-        };
-        apart = subst (λ (xs : List (Node Held)). StandApart IsWritten (reading gone_first) xs) (sym (nodes_are (changed a a.number (front ++ back))))
-            (table_leads (hash_nodes a.front) (bucket_nodes a.left) (segment (front ++ back) 0 ++ behind a) (reading gone_1) (reading gone_first) root.number new wrote_table a.number (starts (buckets_of a)) (starts (a.left ++ (front ++ back) ∷ a.right))
-            (sym (root_same a are table_is)) (number_some a are table_is place_is)
-            (record { kind = new_kind; leads = ap (λ (rs : List CellRef). map (λ (r : CellRef). r.number) rs) new_says ∙ rest_leads rest rest_is a are table_is place_is })
-            (apart_front rest rest_is a are table_is place_is));
-        shaped = shaped_now a a.number (front ++ back) are.shaped (shaped a are table_is place_is)
-            ((λ none. absurd (number_some a are table_is place_is none)), (λ none. absurd (not_all_none rest (a.left ++ (front ++ back) ∷ a.right) (rest_leads rest rest_is a are table_is place_is) some_rest none)))
-            (rest_entries a are table_is place_is);
-        paged = λ n within. paged_still a are table_is place_is a.number n (λ own. own) within;
-      }
+        edits_first : Edits w gone_first (root.number ∷ found.at.number ∷ [])
+        edits_first = edit_more w gone_1 (found.at.number ∷ []) edits_1 root new (none_of_kind (reading w) kind.HashTable root.number root_kind bare_table) (never_left w kind.HashTable root.number root_kind (λ e. absurd (omega arith))) (bare_table new new_kind)
 
-      goes_first : (keys : Meaning) (listed : List CellRef) (nodes : List ℕ) → IsHash head.number (says keys (reading w)) (reading w) listed nodes → Goes head.number keys w gone_first (root.number ∷ found.at.number ∷ []) version table word listed nodes
-      goes_first keys listed nodes stands =
-          let t = hash_around head.number (says keys (reading w)) (reading w) listed nodes table word stands table_small word_small in
-          let zero_now : reading gone_first found.at.number ≡ Some zero_cell = wrote_table.elsewhere found.at.number (entry_no_table (reading w) found.at.number root.number entry_kind root_kind) ∙ wrote_1.here in
-          record {
-            at = t;
-            number = t.a.number;
-            front = front;
-            entry = found.at.number;
-            hash = is_in.at.hash;
-            back = back;
-            bucket_is = chain_is t.a t.are t.table_is t.place_is;
-            are = are_first t.a t.are t.table_is t.place_is;
-            own = λ n among. elim among [
-              | inl same ↦ inr (by_own t.a n (own_among t.a.number n (number_some t.a t.are t.table_is t.place_is) (sym (root_same t.a t.are t.table_is) ∙ same)))
-              | inr (inl same) ↦ inr (by_bucket t.a n (subst (λ (k : ℕ). IsAmong (cells_of t.a.bucket) k) same (entry_among t.a t.are t.table_is t.place_is)))
-              | inr (inr none) ↦ absurd none
-            ];
-            come = λ n within. came t.a t.are t.table_is t.place_is t.a.number n (λ own. own) within;
-            gone = λ n within. went t.a t.are t.table_is t.place_is t.a.number n (reading gone_first n ≡ Some zero_cell) (λ own. inl own) (λ same. ap (reading gone_first) (sym same) ∙ zero_now) within;
-            filled = λ n blank among. elim among [
-              | inl same ↦ apart_from_free (reading w) kind.HashTable root.number n root_kind (λ e. absurd (omega arith)) blank.zero (sym same)
-              | inr (inl same) ↦ apart_from_free (reading w) kind.HashEntry found.at.number n entry_kind (λ e. absurd (omega arith)) blank.zero (sym same)
-              | inr (inr none) ↦ none
-            ];
-          }
-
-      pub take_first : IsRemovedByAny (hash_nature class head.number) w gone_first version
-      take_first keys rests = is_removed class head.number keys rests w gone_first (root.number ∷ found.at.number ∷ []) version table word edits_first (omega arith) (goes_first keys)
-
-    -- a table without entries
-    module _ (now_top : Cell) (top_kind : IsOfKind now_top kind.IndexHead) (top_says : (index_head_in now_top).roots ≡ slice_set (index_head_in top).roots table no_ref) (rest : List CellRef) (rest_is : rest ≡ slice_set (table_in old).buckets word found.next) (none_rest : list_all (λ (r : CellRef). r.number == 0) rest ≡ true) where
-      abbrev pub gone_table : Work
-      gone_table = put_work gone_1 root zero_cell
-
-      abbrev pub gone_last : Work
-      gone_last = put_work gone_table head now_top
-
-      wrote_zero : Writes (reading gone_1) (reading gone_table) root.number zero_cell
-      wrote_zero = put_reads gone_1 root zero_cell
-
-      wrote_head : Writes (reading gone_table) (reading gone_last) head.number now_top
-      wrote_head = put_reads gone_table head now_top
-
-      edits_last : Edits w gone_last (head.number ∷ root.number ∷ found.at.number ∷ [])
-      edits_last =
-          edit_more w gone_table (root.number ∷ found.at.number ∷ [])
-          (edit_more w gone_1 (found.at.number ∷ []) edits_1 root zero_cell (none_of_kind (reading w) kind.HashTable root.number root_kind bare_table) (never_left w kind.HashTable root.number root_kind (λ e. absurd (omega arith))) bare_zero)
-          head now_top (none_of_kind (reading w) kind.IndexHead head.number head_kind bare_head) (never_left w kind.IndexHead head.number head_kind (λ e. absurd (omega arith))) (bare_head now_top top_kind)
-
-      -- nothing of the table is left
-      module _ (a : Around) (are : AreTables (reading w) head.number (tables_of a)) (table_is : length a.front ≡ table) (place_is : length a.left ≡ word) where
-        apart_table : StandApart IsWritten (reading gone_table) (nodes_of (changed a 0 (front ++ back)))
-        apart_table =
-            table_goes (hash_nodes a.front) (bucket_nodes a.left) (segment (front ++ back) 0 ++ behind a) (reading gone_1) (reading gone_table) root.number zero_cell wrote_zero a.number (starts (buckets_of a)) (starts (a.left ++ (front ++ back) ∷ a.right))
-            (sym (root_same a are table_is)) (number_some a are table_is place_is) (apart_front rest rest_is a are table_is place_is)
-
-        no_entries : bucket_nodes (a.left ++ (front ++ back) ∷ a.right) ≡ []
-        no_entries =
-            all_none (reading gone_table) rest (a.left ++ (front ++ back) ∷ a.right) (rest_leads rest rest_is a are table_is place_is) none_rest
-            (table_stand (reading gone_table) (changed a 0 (front ++ back)) apart_table.stand)
-
-        head_beside : ¬ IsAmong (numbers (nodes_of (changed a 0 (front ++ back)))) head.number
-        head_beside within = head_no_node (reading w) (nodes_of a) head.number head_kind (apart_around (reading w) head.number a are).stand (came a are table_is place_is 0 head.number (λ none. absurd none) within)
-
-        are_last : AreTables (reading gone_last) head.number (tables_of (changed a 0 (front ++ back)))
-        are_last = record {
+        are_first : (a : Around) → AreTables (reading w) head.number (tables_of a) → length a.front ≡ table → length a.left ≡ word → AreTables (reading gone_first) head.number (tables_of (changed a a.number (front ++ back)))
+        are_first a are table_is place_is = record {
           leads = record {
-            cell = now_top;
-            here = wrote_head.here;
-            kind = top_kind;
-            leads =
-                ap (λ (rs : List CellRef). map (λ (r : CellRef). r.number) rs) top_says
-                ∙ map_set (λ (r : CellRef). r.number) (index_head_in top).roots table no_ref
-                ∙ ap (λ (ns : List ℕ). slice_set ns table 0) (ap (λ (c : Cell). map (λ (r : CellRef). r.number) (index_head_in c).roots) (same_cell (reading w) head.number top are.leads.cell top_is are.leads.here) ∙ are.leads.leads)
-                ∙ ap (λ (i : ℕ). slice_set (map (λ (t : Table). t.number) (tables_of a)) i 0) (sym table_is)
-                ∙ set_mapped (λ (t : Table). t.number) a.front (table_of a) (table_of (changed a 0 (front ++ back))) a.back 0 refl;
+            cell = are.leads.cell;
+            here = edits_first.elsewhere head.number (λ among. elim among [
+              | inl same ↦ head_no_table (reading w) head.number root.number head_kind root_kind same
+              | inr (inl same) ↦ entry_no_head (reading w) found.at.number head.number entry_kind head_kind same
+              | inr (inr none) ↦ none
+            ]) ∙ are.leads.here;
+            kind = are.leads.kind;
+            leads = are.leads.leads ∙ sym (same_mapped (λ (u : Table). u.number) a.front (table_of a) (table_of (changed a a.number (front ++ back))) a.back refl);
           };
-          apart =
-              apart_beside IsWritten (reading gone_table) (reading gone_last) head.number now_top wrote_head (hash_nodes (tables_of (changed a 0 (front ++ back))))
-              (λ within. head_beside (subst (λ (xs : List (Node Held)). IsAmong (numbers xs) head.number) (nodes_are (changed a 0 (front ++ back))) within))
-              (subst (λ (xs : List (Node Held)). StandApart IsWritten (reading gone_table) xs) (sym (nodes_are (changed a 0 (front ++ back)))) apart_table);
-          shaped = shaped_now a 0 (front ++ back) are.shaped (shaped a are table_is place_is)
-              ((λ none. no_entries), (λ none. refl))
+          apart = subst (λ (xs : List (Node Held)). StandApart IsWritten (reading gone_first) xs) (sym (nodes_are (changed a a.number (front ++ back))))
+              (table_leads (hash_nodes a.front) (bucket_nodes a.left) (segment (front ++ back) 0 ++ behind a) (reading gone_1) (reading gone_first) root.number new wrote_table a.number (starts (buckets_of a)) (starts (a.left ++ (front ++ back) ∷ a.right))
+              (sym (root_same a are table_is)) (number_some a are table_is place_is)
+              (record { kind = new_kind; leads = ap (λ (rs : List CellRef). map (λ (r : CellRef). r.number) rs) new_says ∙ rest_leads rest rest_is a are table_is place_is })
+              (apart_front rest rest_is a are table_is place_is));
+          shaped = shaped_now a a.number (front ++ back) are.shaped (shaped a are table_is place_is)
+              ((λ none. absurd (number_some a are table_is place_is none)), (λ none. absurd (not_all_none rest (a.left ++ (front ++ back) ∷ a.right) (rest_leads rest rest_is a are table_is place_is) some_rest none)))
               (rest_entries a are table_is place_is);
-          paged = λ n within. paged_still a are table_is place_is 0 n (λ none. absurd none) within;
+          paged = λ n within. paged_still a are table_is place_is a.number n (λ own. own) within;
         }
 
-      goes_last : (keys : Meaning) (listed : List CellRef) (nodes : List ℕ) → IsHash head.number (says keys (reading w)) (reading w) listed nodes → Goes head.number keys w gone_last (head.number ∷ root.number ∷ found.at.number ∷ []) version table word listed nodes
-      goes_last keys listed nodes stands =
-          let t = hash_around head.number (says keys (reading w)) (reading w) listed nodes table word stands table_small word_small in
-          let entry_now : reading gone_last found.at.number ≡ Some zero_cell =
-              wrote_head.elsewhere found.at.number (entry_no_head (reading w) found.at.number head.number entry_kind head_kind)
-              ∙ wrote_zero.elsewhere found.at.number (entry_no_table (reading w) found.at.number root.number entry_kind root_kind) ∙ wrote_1.here in
-          let table_now : reading gone_last root.number ≡ Some zero_cell = wrote_head.elsewhere root.number (head_no_table (reading w) head.number root.number head_kind root_kind) ∙ wrote_zero.here in
-          record {
-            at = t;
-            number = 0;
-            front = front;
-            entry = found.at.number;
-            hash = is_in.at.hash;
-            back = back;
-            bucket_is = chain_is t.a t.are t.table_is t.place_is;
-            are = are_last t.a t.are t.table_is t.place_is;
-            own = λ n among. elim among [
-              | inl same ↦ inl (sym same)
-              | inr (inl same) ↦ inr (by_own t.a n (own_among t.a.number n (number_some t.a t.are t.table_is t.place_is) (sym (root_same t.a t.are t.table_is) ∙ same)))
-              | inr (inr (inl same)) ↦ inr (by_bucket t.a n (subst (λ (k : ℕ). IsAmong (cells_of t.a.bucket) k) same (entry_among t.a t.are t.table_is t.place_is)))
-              | inr (inr (inr none)) ↦ absurd none
-            ];
-            come = λ n within. came t.a t.are t.table_is t.place_is 0 n (λ none. absurd none) within;
-            gone = λ n within. went t.a t.are t.table_is t.place_is 0 n (reading gone_last n ≡ Some zero_cell)
-                (λ own. inr (ap (reading gone_last) (sym (root_same t.a t.are t.table_is ∙ own_only t.a.number n own)) ∙ table_now))
-                (λ same. ap (reading gone_last) (sym same) ∙ entry_now) within;
-            filled = λ n blank among. elim among [
-              | inl same ↦ apart_from_free (reading w) kind.IndexHead head.number n head_kind (λ e. absurd (omega arith)) blank.zero (sym same)
-              | inr (inl same) ↦ apart_from_free (reading w) kind.HashTable root.number n root_kind (λ e. absurd (omega arith)) blank.zero (sym same)
-              | inr (inr (inl same)) ↦ apart_from_free (reading w) kind.HashEntry found.at.number n entry_kind (λ e. absurd (omega arith)) blank.zero (sym same)
-              | inr (inr (inr none)) ↦ none
-            ];
+        goes_first : (keys : Meaning) (listed : List CellRef) (nodes : List ℕ) → IsHash head.number (says keys (reading w)) (reading w) listed nodes → Goes head.number keys w gone_first (root.number ∷ found.at.number ∷ []) version table word listed nodes
+        goes_first keys listed nodes stands =
+            let t = hash_around head.number (says keys (reading w)) (reading w) listed nodes table word stands table_small word_small in
+            let zero_now : reading gone_first found.at.number ≡ Some zero_cell = wrote_table.elsewhere found.at.number (entry_no_table (reading w) found.at.number root.number entry_kind root_kind) ∙ wrote_1.here in
+            record {
+              at = t;
+              number = t.a.number;
+              front = front;
+              entry = found.at.number;
+              hash = is_in.at.hash;
+              back = back;
+              bucket_is = chain_is t.a t.are t.table_is t.place_is;
+              are = are_first t.a t.are t.table_is t.place_is;
+              own = λ n among. elim among [
+                | inl same ↦ inr (by_own t.a n (own_among t.a.number n (number_some t.a t.are t.table_is t.place_is) (sym (root_same t.a t.are t.table_is) ∙ same)))
+                | inr (inl same) ↦ inr (by_bucket t.a n (subst (λ (k : ℕ). IsAmong (cells_of t.a.bucket) k) same (entry_among t.a t.are t.table_is t.place_is)))
+                | inr (inr none) ↦ absurd none
+              ];
+              come = λ n within. came t.a t.are t.table_is t.place_is t.a.number n (λ own. own) within;
+              gone = λ n within. went t.a t.are t.table_is t.place_is t.a.number n (reading gone_first n ≡ Some zero_cell) (λ own. inl own) (λ same. ap (reading gone_first) (sym same) ∙ zero_now) within;
+              filled = λ n blank among. elim among [
+                | inl same ↦ apart_from_free (reading w) kind.HashTable root.number n root_kind (λ e. absurd (omega arith)) blank.zero (sym same)
+                | inr (inl same) ↦ apart_from_free (reading w) kind.HashEntry found.at.number n entry_kind (λ e. absurd (omega arith)) blank.zero (sym same)
+                | inr (inr none) ↦ none
+              ];
+            }
+
+        pub take_first : IsRemovedByAny (hash_nature class head.number) w gone_first version
+        take_first keys rests = is_removed class head.number keys rests w gone_first (root.number ∷ found.at.number ∷ []) version table word edits_first (omega arith) (goes_first keys)
+
+      -- a table without entries
+      module _ (now_top : Cell) (top_kind : IsOfKind now_top kind.IndexHead) (top_says : (index_head_in now_top).roots ≡ slice_set (index_head_in top).roots table no_ref) (rest : List CellRef) (rest_is : rest ≡ slice_set (table_in old).buckets word found.next) (none_rest : list_all (λ (r : CellRef). r.number == 0) rest ≡ true) where
+        abbrev pub gone_table : Work
+        gone_table = put_work gone_1 root zero_cell
+
+        abbrev pub gone_last : Work
+        gone_last = put_work gone_table head now_top
+
+        wrote_zero : Writes (reading gone_1) (reading gone_table) root.number zero_cell
+        wrote_zero = put_reads gone_1 root zero_cell
+
+        wrote_head : Writes (reading gone_table) (reading gone_last) head.number now_top
+        wrote_head = put_reads gone_table head now_top
+
+        edits_last : Edits w gone_last (head.number ∷ root.number ∷ found.at.number ∷ [])
+        edits_last =
+            edit_more w gone_table (root.number ∷ found.at.number ∷ [])
+            (edit_more w gone_1 (found.at.number ∷ []) edits_1 root zero_cell (none_of_kind (reading w) kind.HashTable root.number root_kind bare_table) (never_left w kind.HashTable root.number root_kind (λ e. absurd (omega arith))) bare_zero)
+            head now_top (none_of_kind (reading w) kind.IndexHead head.number head_kind bare_head) (never_left w kind.IndexHead head.number head_kind (λ e. absurd (omega arith))) (bare_head now_top top_kind)
+
+        -- nothing of the table is left
+        module _ (a : Around) (are : AreTables (reading w) head.number (tables_of a)) (table_is : length a.front ≡ table) (place_is : length a.left ≡ word) where
+          apart_table : StandApart IsWritten (reading gone_table) (nodes_of (changed a 0 (front ++ back)))
+          apart_table =
+              table_goes (hash_nodes a.front) (bucket_nodes a.left) (segment (front ++ back) 0 ++ behind a) (reading gone_1) (reading gone_table) root.number zero_cell wrote_zero a.number (starts (buckets_of a)) (starts (a.left ++ (front ++ back) ∷ a.right))
+              (sym (root_same a are table_is)) (number_some a are table_is place_is) (apart_front rest rest_is a are table_is place_is)
+
+          no_entries : bucket_nodes (a.left ++ (front ++ back) ∷ a.right) ≡ []
+          no_entries =
+              all_none (reading gone_table) rest (a.left ++ (front ++ back) ∷ a.right) (rest_leads rest rest_is a are table_is place_is) none_rest
+              (table_stand (reading gone_table) (changed a 0 (front ++ back)) apart_table.stand)
+
+          head_beside : ¬ IsAmong (numbers (nodes_of (changed a 0 (front ++ back)))) head.number
+          head_beside within = head_no_node (reading w) (nodes_of a) head.number head_kind (apart_around (reading w) head.number a are).stand (came a are table_is place_is 0 head.number (λ none. absurd none) within)
+
+          are_last : AreTables (reading gone_last) head.number (tables_of (changed a 0 (front ++ back)))
+          are_last = record {
+            leads = record {
+              cell = now_top;
+              here = wrote_head.here;
+              kind = top_kind;
+              leads =
+                  ap (λ (rs : List CellRef). map (λ (r : CellRef). r.number) rs) top_says
+                  ∙ map_set (λ (r : CellRef). r.number) (index_head_in top).roots table no_ref
+                  ∙ ap (λ (ns : List ℕ). slice_set ns table 0) (ap (λ (c : Cell). map (λ (r : CellRef). r.number) (index_head_in c).roots) (same_cell (reading w) head.number top are.leads.cell top_is are.leads.here) ∙ are.leads.leads)
+                  ∙ ap (λ (i : ℕ). slice_set (map (λ (t : Table). t.number) (tables_of a)) i 0) (sym table_is)
+                  ∙ set_mapped (λ (t : Table). t.number) a.front (table_of a) (table_of (changed a 0 (front ++ back))) a.back 0 refl;
+            };
+            apart =
+                apart_beside IsWritten (reading gone_table) (reading gone_last) head.number now_top wrote_head (hash_nodes (tables_of (changed a 0 (front ++ back))))
+                (λ within. head_beside (subst (λ (xs : List (Node Held)). IsAmong (numbers xs) head.number) (nodes_are (changed a 0 (front ++ back))) within))
+                (subst (λ (xs : List (Node Held)). StandApart IsWritten (reading gone_table) xs) (sym (nodes_are (changed a 0 (front ++ back)))) apart_table);
+            shaped = shaped_now a 0 (front ++ back) are.shaped (shaped a are table_is place_is)
+                ((λ none. no_entries), (λ none. refl))
+                (rest_entries a are table_is place_is);
+            paged = λ n within. paged_still a are table_is place_is 0 n (λ none. absurd none) within;
           }
 
-      pub take_last : IsRemovedByAny (hash_nature class head.number) w gone_last version
-      take_last keys rests = is_removed class head.number keys rests w gone_last (head.number ∷ root.number ∷ found.at.number ∷ []) version table word edits_last (omega arith) (goes_last keys)
+        goes_last : (keys : Meaning) (listed : List CellRef) (nodes : List ℕ) → IsHash head.number (says keys (reading w)) (reading w) listed nodes → Goes head.number keys w gone_last (head.number ∷ root.number ∷ found.at.number ∷ []) version table word listed nodes
+        goes_last keys listed nodes stands =
+            let t = hash_around head.number (says keys (reading w)) (reading w) listed nodes table word stands table_small word_small in
+            let entry_now : reading gone_last found.at.number ≡ Some zero_cell =
+                wrote_head.elsewhere found.at.number (entry_no_head (reading w) found.at.number head.number entry_kind head_kind)
+                ∙ wrote_zero.elsewhere found.at.number (entry_no_table (reading w) found.at.number root.number entry_kind root_kind) ∙ wrote_1.here in
+            let table_now : reading gone_last root.number ≡ Some zero_cell = wrote_head.elsewhere root.number (head_no_table (reading w) head.number root.number head_kind root_kind) ∙ wrote_zero.here in
+            record {
+              at = t;
+              number = 0;
+              front = front;
+              entry = found.at.number;
+              hash = is_in.at.hash;
+              back = back;
+              bucket_is = chain_is t.a t.are t.table_is t.place_is;
+              are = are_last t.a t.are t.table_is t.place_is;
+              own = λ n among. elim among [
+                | inl same ↦ inl (sym same)
+                | inr (inl same) ↦ inr (by_own t.a n (own_among t.a.number n (number_some t.a t.are t.table_is t.place_is) (sym (root_same t.a t.are t.table_is) ∙ same)))
+                | inr (inr (inl same)) ↦ inr (by_bucket t.a n (subst (λ (k : ℕ). IsAmong (cells_of t.a.bucket) k) same (entry_among t.a t.are t.table_is t.place_is)))
+                | inr (inr (inr none)) ↦ absurd none
+              ];
+              come = λ n within. came t.a t.are t.table_is t.place_is 0 n (λ none. absurd none) within;
+              gone = λ n within. went t.a t.are t.table_is t.place_is 0 n (reading gone_last n ≡ Some zero_cell)
+                  (λ own. inr (ap (reading gone_last) (sym (root_same t.a t.are t.table_is ∙ own_only t.a.number n own)) ∙ table_now))
+                  (λ same. ap (reading gone_last) (sym same) ∙ entry_now) within;
+              filled = λ n blank among. elim among [
+                | inl same ↦ apart_from_free (reading w) kind.IndexHead head.number n head_kind (λ e. absurd (omega arith)) blank.zero (sym same)
+                | inr (inl same) ↦ apart_from_free (reading w) kind.HashTable root.number n root_kind (λ e. absurd (omega arith)) blank.zero (sym same)
+                | inr (inr (inl same)) ↦ apart_from_free (reading w) kind.HashEntry found.at.number n entry_kind (λ e. absurd (omega arith)) blank.zero (sym same)
+                | inr (inr (inr none)) ↦ none
+              ];
+            }
+
+        pub take_last : IsRemovedByAny (hash_nature class head.number) w gone_last version
+        take_last keys rests = is_removed class head.number keys rests w gone_last (head.number ∷ root.number ∷ found.at.number ∷ []) version table word edits_last (omega arith) (goes_last keys)

@@ -6,7 +6,7 @@ use Rattle.rdb_cells.specs.Keys.{Meaning, says}
 use Rattle.rdb_cells.specs.Links.{IsAmong, Placed, segment, start, numbers, IsChain}
 use Rattle.rdb_cells.specs.References.{IsPageCell}
 use Rattle.rdb_hash.specs.declared.chain.Found.{Found}
-use Rattle.rdb_hash.specs.Shape.{Held, Entry, Table, AreTables, IsWritten, AreEntriesOf, AreHashed, versions_of}
+use Rattle.rdb_hash.specs.Shape.{Held, Entry, Table, AreTables, IsWritten, AreEntriesOf, AreHashed, bucket_nodes, versions_of}
 
 -- the bucket at a place of a table
 abbrev pub IsBucketAt : List Table → ℕ → ℕ → List (Placed Held) → Type 0
@@ -64,3 +64,8 @@ pub record IsAt (image : Image) (first : ℕ) (version : CellRef) (found : Found
   pub is : IsBucket image first bucket (front ++ record { number = found.at.number; element = Entry version hash } ∷ back)
   pub before : IsLast front found.before.number
   pub next : found.next.number ≡ start back 0
+
+-- the versions of a table came to the list, whatever tables stand
+abbrev pub ListsTable : Image → ℕ → ℕ → List CellRef → List CellRef → Type 0
+ListsTable image head place before after = (tables : List Table) (t : Table) → AreTables image head tables →
+    slice_get tables place ≡ Some t → after ≡ before ++ versions_of (bucket_nodes t.buckets)

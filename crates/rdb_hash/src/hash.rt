@@ -5,7 +5,7 @@
 //! | the index head  | the tables, each in a cell while one of its buckets has an entry  |
 //! | a table         | the first entry of each of its buckets                            |
 //! | an entry        | its version, and the next entry of its bucket                     |
-ghost use Rattle.std.specs.Prelude.{◌≡◌, ◌≢◌, ◌==◌, ◌+◌, ◌<◌, ◌≤◌, length, IfOk, true};
+ghost use Rattle.std.specs.Prelude.{◌≡◌, ◌≢◌, ◌==◌, ◌+◌, ◌<◌, ◌≤◌, length, IfOk, OnOk, true};
 ghost use Rattle.std.specs.List.{list_all};
 ghost use Rattle.rdb_cells.specs.HashFormat.{table_buckets};
 ghost use Rattle.rdb_cells.specs.HeadFormat.{index_roots};
@@ -16,7 +16,7 @@ ghost use Rattle.rdb_cells.specs.Work.{work, reading, HasLeft};
 ghost use Rattle.rdb_hash.specs.Changes.{IsPutHashed, IsRemovedByAny, HasRoot, IsBucketOf, IsIn};
 ghost use Rattle.rdb_hash.specs.Lookup.{StandsBy, IsFound};
 ghost use Rattle.rdb_hash.specs.Shape.{hash_nature};
-ghost use Rattle.rdb_hash.specs.Walks.{HasTables, IsFirst};
+ghost use Rattle.rdb_hash.specs.Walks.{HasTables, IsFirst, ListsTable};
 
 use crate::bucket::Bucket;
 use crate::chain::{Found, find, gather, list};
@@ -84,6 +84,24 @@ impl Hash {
             return NONE;
         }
         HashTable::bucket_in(cells.read(table), bucket.place)
+    }
+
+    /// Appends the versions of a table, bucket by bucket.
+    fn list_table<C: Cells>(
+        &self,
+        cells: &C,
+        table: usize,
+        refs: &mut Refs,
+    ) -> Result<(), NoMemory>
+        requires tables { HasTables (C.image cells.now) self.now.head.number }
+        requires table { table < index_roots }
+        ensures { OnOk result (ListsTable (C.image cells.now) self.now.head.number table refs.old refs.new) }
+    {
+        for place in 0..TABLE_BUCKETS {
+            let first = self.first_of(cells, Bucket { table, place });
+            list(cells, first, refs)?;
+        }
+        Ok(())
     }
 
     /// Makes a table with the entry alone. The entry takes the lower cell.
@@ -252,12 +270,8 @@ impl Index for Hash {
     /// The cost grows with the number of entries.
     fn refs<C: Cells>(&self, cells: &C) -> Result<Refs, NoMemory> {
         let mut refs = List::new(self.alloc);
-        for table in IndexHead::of_cell(cells.read(self.head)).roots {
-            if table != NONE {
-                for first in HashTable::of_cell(cells.read(table)).buckets {
-                    list(cells, first, &mut refs)?;
-                }
-            }
+        for table in 0..INDEX_ROOTS {
+            self.list_table(cells, table, &mut refs)?;
         }
         Ok(refs)
     }
