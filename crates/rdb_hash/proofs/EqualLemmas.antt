@@ -11,7 +11,7 @@ use Rattle.std.specs.Prelude.{IsPermutation}
 use Rattle.rdb_base.specs.declared.value.Value.{Value}
 use Rattle.rdb_pages.specs.declared.cell.CellRef.{CellRef}
 use Rattle.rdb_cells.specs.Images.{Image}
-use Rattle.rdb_cells.specs.Keys.{Meaning, Version, says, hash_by, times_listed, ListsVersions}
+use Rattle.rdb_cells.specs.Keys.{Meaning, Version, ForVersion, says, hash_by, times_listed, ListsVersions}
 use Rattle.rdb_cells.specs.Words.{no_ref}
 use Rattle.rdb_cells.proofs.ListedLemmas.{contains_later, contains_first}
 use Rattle.rdb_cells.specs.HashFormat.{table_buckets}
@@ -19,12 +19,13 @@ use Rattle.rdb_cells.specs.HeadFormat.{index_roots}
 use Rattle.rdb_cells.specs.Links.{start, segment}
 use Rattle.rdb_hash.specs.Lookup.{has_key, AreWithKey}
 use Rattle.rdb_hash.specs.Shape.{IsTable, IsHash, bucket_of, bucket_number, versions_of}
-use Rattle.rdb_hash.specs.Walks.{IsBucket, HasHashedBucket, IsFirst, WhateverInBucket}
+use Rattle.rdb_hash.specs.Walks.{IsBucket, HasEntry, HasHashedBucket, IsFirst, WhateverInBucket}
 use Rattle.rdb_hash.proofs.AroundLemmas.{IsAround, hash_around}
-use Rattle.rdb_hash.proofs.ElsewhereLemmas.{IsElsewhere, bucket_hashed, filtered}
+use Rattle.rdb_hash.proofs.ElsewhereLemmas.{IsElsewhere, bucket_hashed, in_its_bucket, filtered}
 use Rattle.rdb_hash.proofs.KeyTests.{other_hash}
 use Rattle.rdb_hash.proofs.ListPlaces.{get_here}
-use Rattle.rdb_hash.proofs.ShapeLemmas.{Around, table_of, tables_of, buckets_of, table_shaped, is_bucket}
+use Rattle.rdb_hash.proofs.ShapeLemmas.{table_of, tables_of, buckets_of, table_shaped, is_bucket}
+use Rattle.rdb_hash.proofs.TableLemmas.{some_value}
 
 -- how often a reference is listed
 counts : (q r : CellRef) (rs : List CellRef) → times_listed (q ∷ rs) r ≡ cond (q.number == r.number) 1 0 + times_listed rs r
@@ -118,9 +119,6 @@ module _ (head : ℕ) (keys : Meaning) (image : Image) (key : List Value) (hash 
     at : IsAround head (says keys image) image listed nodes table place
     at = hash_around head (says keys image) image listed nodes table place stands table_small place_small
 
-    a : Around
-    a = at.a
-
     begins_here : first ≡ start at.a.bucket 0
     begins_here =
         begins (tables_of at.a) at.a.bucket at.are
@@ -162,3 +160,21 @@ module _ (head : ℕ) (keys : Meaning) (image : Image) (key : List Value) (hash 
           these = these;
           by_reference = ascending found ordered (found_once (has_key keys image key) listed found at.versions.once these);
         }
+
+-- a listed version's entry is in the bucket of its key's hash
+pub has_entry : (head : ℕ) (keys : Meaning) (image : Image) (version : CellRef) (hash table place first : ℕ) (listed : List CellRef) (nodes : List ℕ) → IsHash head (says keys image) image listed nodes → Contains listed version → ForVersion keys image version (λ v. hash ≡ hash_by keys v.key) → bucket_number table place ≡ bucket_of hash → table < index_roots → place < table_buckets → IsFirst image head table place first → HasEntry image first version
+has_entry head keys image version hash table place first listed nodes stands there hash_is number_is table_small place_small begins =
+    let v = some_value (keys.version_of image version.number) (stands.versions.keyed version there) in
+    let at = hash_around head (says keys image) image listed nodes table place stands table_small place_small in
+    let shaped = table_shaped image head at.a at.are in
+    let small = subst (λ (n : ℕ). n < table_buckets) (sym at.place_is) place_small in
+    let own_place : bucket_of (hash_by keys v.0.key) ≡ bucket_number (length at.a.front) (length at.a.left) =
+        ap bucket_of (sym (hash_is v.0 v.1)) ∙ sym number_is ∙ ap (λ (n : ℕ). bucket_number n place) (sym at.table_is) ∙ ap (λ (n : ℕ). bucket_number (length at.a.front) n) (sym at.place_is) in
+    let begins_at = begins (tables_of at.a) at.a.bucket at.are
+        (table_of at.a, ap (slice_get (tables_of at.a)) (sym at.table_is) ∙ get_here at.a.front (table_of at.a) at.a.back, ap (slice_get (buckets_of at.a)) (sym at.place_is) ∙ get_here at.a.left at.a.bucket at.a.right) in
+    record {
+      bucket = bucket_number (length at.a.front) (length at.a.left);
+      chain = at.a.bucket;
+      is = subst (λ (n : ℕ). IsBucket image n (bucket_number (length at.a.front) (length at.a.left)) at.a.bucket) (sym begins_at) (is_bucket image head at.a at.are);
+      within = in_its_bucket (says keys image) at.a at.are.shaped shaped small at.hashed version v.0 v.1 own_place (subst (λ (rs : List CellRef). Contains rs version) at.listed_is there);
+    }

@@ -9,7 +9,7 @@ use Rattle.rdb_cells.specs.HeadFormat.{index_roots}
 use Rattle.rdb_cells.specs.Images.{Image}
 use Rattle.rdb_cells.specs.Index.{IsListing, IsStanding}
 use Rattle.rdb_cells.specs.Links.{Node, Placed, segment, start}
-use Rattle.rdb_hash.specs.Shape.{Held, Table, AreTables, hash_nature, own_node, starts, bucket_nodes, hash_nodes, versions_of}
+use Rattle.rdb_hash.specs.Shape.{Held, Table, AreTables, hash_nature, bucket_number, own_node, starts, bucket_nodes, hash_nodes, versions_of}
 use Rattle.rdb_hash.specs.Walks.{HasTables, HasBucket, IsBucket, IsFirst, ListsTable, WhateverInBucket}
 use Rattle.rdb_hash.proofs.ListPlaces.{some_is, some_at, get_here}
 use Rattle.rdb_hash.proofs.ShapeLemmas.{Around, around, count_tables, is_bucket, table_of, tables_of, buckets_of, bucket_nodes_append, hash_nodes_append, versions_append, own_versions}
@@ -26,7 +26,7 @@ take_whole (x ∷ xs) = ap (λ zs. x ∷ zs) (take_whole xs)
 
 -- the bucket at a place, that begins at this number
 module _ (image : Image) (head table place first : ℕ) (tables : List Table) (are : AreTables image head tables) (table_small : table < index_roots) (place_small : place < table_buckets) (begins : IsFirst image head table place first) where
-  found : (a : Around) × (tables ≡ tables_of a) × (length a.front ≡ table) × (length a.left ≡ place)
+  pub found : (a : Around) × (tables ≡ tables_of a) × (length a.front ≡ table) × (length a.left ≡ place)
   found = around image head tables table place are table_small place_small
 
   are_found : AreTables image head (tables_of found.0)
@@ -41,7 +41,8 @@ module _ (image : Image) (head table place first : ℕ) (tables : List Table) (a
   pub bucket_there : (bucket : ℕ) × IsBucket image first bucket found.0.bucket
   bucket_there =
       let same = begins tables found.0.bucket are (table_of found.0, table_at, bucket_at) in
-      (_, subst (λ (n : ℕ). IsBucket image n _ found.0.bucket) (sym same) (is_bucket image head found.0 are_found))
+      let number = bucket_number (length found.0.front) (length found.0.left) in
+      (number, subst (λ (n : ℕ). IsBucket image n number found.0.bucket) (sym same) (is_bucket image head found.0 are_found))
 
   pub has_bucket : HasBucket image first
   has_bucket = (bucket_there.0, found.0.bucket, bucket_there.1)

@@ -1,5 +1,5 @@
 -- What is read from the head and from a table.
-use Rattle.std.proofs.Common.{◌≡◌, ◌≢◌, ◌<◌, ◌^◌, ◌++◌, inl, zero, suc, ℕ, List, [], ◌∷◌, map, slice_get, Option, Some, IsSome, refl, sym, ap, subst, ◌∙◌, arith, rules}
+use Rattle.std.proofs.Common.{◌≡◌, ◌≢◌, ◌<◌, ◌^◌, ◌++◌, inl, zero, suc, ℕ, List, [], ◌∷◌, map, slice_get, Option, Some, None, IsSome, refl, sym, ap, subst, ◌∙◌, arith, rules}
 use Rattle.std.proofs.lemmas.Option.{slice_get-map}
 use Rattle.std.specs.Option.{option_map, option_map_or}
 use Rattle.rdb_pages.specs.declared.cell.Cell.{Cell}
@@ -7,10 +7,11 @@ use Rattle.rdb_pages.specs.declared.cell.CellRef.{CellRef}
 use Rattle.rdb_cells.specs.HashFormat.{table_in, table_buckets}
 use Rattle.rdb_cells.specs.HeadFormat.{index_head_in, index_roots}
 use Rattle.rdb_cells.specs.Images.{Image, IsCell}
+use Rattle.rdb_cells.specs.Keys.{Meaning, ForVersion, says, hash_by}
 use Rattle.rdb_cells.specs.Links.{IsAmong, Node, Placed, Stand, numbers, start, segment}
 use Rattle.rdb_cells.specs.References.{IsPageCell}
 use Rattle.rdb_cells.proofs.LinkLemmas.{stand_parts}
-use Rattle.rdb_hash.specs.Shape.{Held, Table, IsWritten, IsTableCell, LeadsTo, AreTables, own_node, starts, bucket_nodes, hash_nodes}
+use Rattle.rdb_hash.specs.Shape.{Held, Entry, IsHashed, Table, IsWritten, IsTableCell, LeadsTo, AreTables, own_node, starts, bucket_nodes, hash_nodes}
 use Rattle.rdb_hash.specs.Walks.{HasTables, IsFirst, IsBucketAt}
 use Rattle.rdb_hash.proofs.ListPlaces.{some_is, some_at, get_here}
 use Rattle.rdb_hash.proofs.ShapeLemmas.{tables_of, table_of, buckets_of, around, is_bucket, count_tables}
@@ -105,3 +106,13 @@ first_small image head table place first has table_small place_small begins =
     let starts_at = begins (tables_of found.0) found.0.bucket are
         (table_of found.0, ap (slice_get (tables_of found.0)) (sym found.2) ∙ get_here found.0.front (table_of found.0) found.0.back, ap (slice_get (buckets_of found.0)) (sym found.3) ∙ get_here found.0.left found.0.bucket found.0.right) in
     subst (λ (n : ℕ). n < 2 ^ 24) (sym starts_at) (start_small found.0.bucket b.paged)
+
+-- a version with a key, and its hash
+pub some_value : {X : Type 0} (o : Option X) → IsSome o → (x : X) × (o ≡ Some x)
+some_value None some = cc
+some_value (Some x) some = (x, refl)
+
+pub hashed_of : (keys : Meaning) (image : Image) (version : CellRef) (hash : ℕ) → IsSome (keys.version_of image version.number) → ForVersion keys image version (λ v. hash ≡ hash_by keys v.key) → IsHashed (says keys image) (Entry version hash)
+hashed_of keys image version hash some is =
+    let v = some_value (keys.version_of image version.number) some in
+    (v.0, v.1, is v.0 v.1)

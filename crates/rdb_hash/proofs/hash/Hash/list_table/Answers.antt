@@ -16,4 +16,7 @@ loop-place-preserved g c = λ tables t are at.
     c.args.refs.now c.loop-place.refs c.list.new.refs t at (c.loop-place.invariant tables t are at) c.in_ok-list.ensures
 
 pub returns : goal.returns
-returns g c = ?
+returns g c =
+    let most = c.loop-place.auto.place-end in
+    let least = c.loop-place-test.false in
+    table_listed (g.C.Cells.image c.args.cells.now) c.args.self.now.head.number c.args.table c.args.refs.now c.loop-place.refs c.loop-place.place (omega arith) c.loop-place.invariant
