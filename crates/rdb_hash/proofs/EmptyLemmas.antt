@@ -1,5 +1,5 @@
 -- Cells of chains and of buckets: which kinds they have, and which buckets have no entry.
-use Rattle.std.proofs.Common.{◌≡◌, ◌≢◌, ◌==◌, ◌&&◌, ◌++◌, ℕ, zero, suc, List, [], ◌∷◌, map, get_or, drop, Bool, true, false, eq-eqb, Option, Some, IsSome, refl, sym, ap, subst, ◌∙◌, arith, rules}
+use Rattle.std.proofs.Common.{◌≡◌, ◌≢◌, ◌==◌, ◌&&◌, ◌++◌, ℕ, List, [], ◌∷◌, map, get_or, drop, Bool, true, false, eq-eqb, Option, IsSome, refl, sym, ap, subst, ◌∙◌, arith, rules}
 use Rattle.std.specs.List.{list_all}
 use borrow.Author.Tests.{eqb-true}
 use Rattle.rdb_pages.specs.declared.cell.Cell.{Cell}
@@ -7,7 +7,7 @@ use Rattle.rdb_pages.specs.declared.cell.CellRef.{CellRef}
 use Rattle.rdb_cells.specs.declared.kind.Kind.{Kind}
 use Rattle.rdb_cells.specs.declared.kind.Kind.TheVariants as kind
 use Rattle.rdb_cells.specs.Images.{Image, IsCell}
-use Rattle.rdb_cells.specs.Links.{IsAmong, Node, Placed, Stand, start, segment}
+use Rattle.rdb_cells.specs.Links.{Node, Placed, Stand, start, segment}
 use Rattle.rdb_cells.specs.Words.{HasKind}
 use Rattle.rdb_cells.proofs.LinkLemmas.{empty_chain, stand_parts, stand_together}
 use Rattle.rdb_cells.proofs.PlainLemmas.{one_kind}

@@ -204,8 +204,12 @@ fn a_version_is_found_by_its_key_alone(rt: HostRuntime) -> Result<(), Fail> {
     assert_eq!(rt; number_of_first(&answers.all?), Some(1));
     // the hash of no bytes, 2166136261, belongs to bucket 61: the second of the fifth table
     assert_eq!(rt; plan.len(), 3);
-    for (number, word, content) in [(2, 1, 1), (2, 2, 2_166_136_261), (3, 2, 2), (2_000_002, 5, 3)]
-    {
+    for (number, word, content) in [
+        (2, 1, 1),
+        (2, 2, 2_166_136_261),
+        (3, 2, 2),
+        (2_000_002, 5, 3),
+    ] {
         let found = plan.get(CellRef { number }).map(|cell| cell.words[word]);
         assert_eq!(rt; found, Some(content), "cell {number}");
     }
