@@ -80,3 +80,8 @@ table_stand image a stand =
     let right = (stand_parts IsWritten image (bucket_nodes a.right) (hash_nodes a.back) bucket.1).0 in
     subst (λ (xs : List (Node Held)). Stand IsWritten image xs) (sym (bucket_nodes_append a.left (a.bucket ∷ a.right)))
     (stand_together IsWritten image (bucket_nodes a.left) (segment a.bucket 0 ++ bucket_nodes a.right) left.0 (stand_together IsWritten image (segment a.bucket 0) (bucket_nodes a.right) bucket.0 right))
+
+-- where a chain begins doesn't rest on what stands behind its first entry
+pub same_begin : (front : List (Placed Held)) (p x : Placed Held) (back : List (Placed Held)) → start ((front ++ p ∷ []) ++ back) 0 ≡ start ((front ++ p ∷ []) ++ x ∷ back) 0
+same_begin [] p x back = refl
+same_begin (f ∷ fs) p x back = refl

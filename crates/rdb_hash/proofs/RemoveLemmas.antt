@@ -24,7 +24,7 @@ use Rattle.rdb_hash.specs.Shape.{Held, Entry, Table, IsHash, AreTables, IsTable,
 use Rattle.rdb_hash.specs.Walks.{HasTables, IsBucket}
 use Rattle.rdb_hash.proofs.AroundLemmas.{hash_around}
 use Rattle.rdb_hash.proofs.ChangeLemmas.{own_cells, cells_of, own_among, own_only, numbers_segment, by_own, by_bucket, transfer, changed, some_nodes, shaped_now}
-use Rattle.rdb_hash.proofs.EmptyLemmas.{cells_append, entry_no_table, entry_no_head, kind_there, chain_kind, all_none, not_all_none, table_stand}
+use Rattle.rdb_hash.proofs.EmptyLemmas.{cells_append, same_begin, entry_no_table, entry_no_head, kind_there, chain_kind, all_none, not_all_none, table_stand}
 use Rattle.rdb_hash.proofs.EditLemmas.{Edits, no_edits, edit_more, bare_table, bare_entry, bare_head, bare_zero, none_of_kind, apart_from_free, never_left}
 use Rattle.rdb_hash.proofs.FinishLemmas.{Goes, is_removed}
 use Rattle.rdb_hash.proofs.FrameLemmas.{frame, entry_goes, entry_leads, table_leads, table_goes}
@@ -184,14 +184,10 @@ module _ (class : ℕ) (head version : CellRef) (table word : ℕ) (w : Work) (f
       edits_behind = edit_more w gone_1 (found.at.number ∷ []) edits_1 found.before led (none_of_kind (reading w) kind.HashEntry found.before.number before_kind bare_entry) (never_left w kind.HashEntry found.before.number before_kind (λ e. absurd (omega arith))) (bare_entry led led_kind)
 
       module _ (a : Around) (are : AreTables (reading w) head.number (tables_of a)) (table_is : length a.front ≡ table) (place_is : length a.left ≡ word) where
-        starts_same : (gs : List (Placed Held)) (q : Placed Held) → start ((gs ++ q ∷ []) ++ back) 0 ≡ start ((gs ++ q ∷ []) ++ entry ∷ back) 0
-        starts_same [] q = refl
-        starts_same (g ∷ gs) q = refl
-
         links_same : starts (buckets_of a) ≡ starts (buckets_of (changed a a.number (front ++ back)))
         links_same =
             sym (same_mapped (λ (c : List (Placed Held)). start c 0) a.left a.bucket (front ++ back) a.right
-            (ap (λ (xs : List (Placed Held)). start (xs ++ back) 0) previous.2 ∙ starts_same previous.0 previous.1
+            (ap (λ (xs : List (Placed Held)). start (xs ++ back) 0) previous.2 ∙ same_begin previous.0 previous.1 entry back
             ∙ sym (ap (λ (c : List (Placed Held)). start c 0) (chain_is a are table_is place_is ∙ ap (λ (xs : List (Placed Held)). xs ++ entry ∷ back) previous.2))))
 
         some_left : (gs : List (Placed Held)) (q : Placed Held) → bucket_nodes (a.left ++ ((gs ++ q ∷ []) ++ back) ∷ a.right) ≢ []
