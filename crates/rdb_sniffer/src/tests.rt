@@ -12,6 +12,7 @@ use std::alloc::Global;
 use std::test::Fail;
 
 // What is open in a record.
+#[derive(Clone, Copy)]
 struct Row {
     mark: Option<u64>,
     left: bool,
@@ -71,7 +72,7 @@ fn seat_of(alloc: Global, row: &Row) -> Result<Seat, NoMemory> {
 }
 
 // A row of the table.
-fn row(
+fn record_with(
     mark: Option<u64>,
     left: bool,
     plan: bool,
@@ -94,16 +95,16 @@ fn row(
 #[test]
 fn each_record_has_its_next_step(rt: HostRuntime) -> Result<(), Fail> {
     let rows = [
-        row(Some(5), true, false, false, false, 0, Thing::Stamp),
-        row(Some(5), true, true, false, true, 1, Thing::Stamp),
-        row(Some(5), false, false, false, false, 0, Thing::Close),
-        row(None, true, true, false, true, 2, Thing::GoOn),
-        row(None, true, true, true, true, 2, Thing::TakeBack),
-        row(None, false, false, false, true, 2, Thing::TakeBack),
-        row(None, true, true, true, false, 2, Thing::Release),
-        row(None, true, false, false, false, 2, Thing::Release),
-        row(None, true, false, false, false, 0, Thing::PlanDrop),
-        row(None, false, false, false, false, 0, Thing::Close),
+        record_with(Some(5), true, false, false, false, 0, Thing::Stamp),
+        record_with(Some(5), true, true, false, true, 1, Thing::Stamp),
+        record_with(Some(5), false, false, false, false, 0, Thing::Close),
+        record_with(None, true, true, false, true, 2, Thing::GoOn),
+        record_with(None, true, true, true, true, 2, Thing::TakeBack),
+        record_with(None, false, false, false, true, 2, Thing::TakeBack),
+        record_with(None, true, true, true, false, 2, Thing::Release),
+        record_with(None, true, false, false, false, 2, Thing::Release),
+        record_with(None, true, false, false, false, 0, Thing::PlanDrop),
+        record_with(None, false, false, false, false, 0, Thing::Close),
     ];
     for row in &rows {
         let seat = seat_of(rt.alloc(), row)?;
