@@ -28,13 +28,13 @@ use Rattle.rdb_hash.proofs.ShapeLemmas.{table_of, tables_of, buckets_of, table_s
 use Rattle.rdb_hash.proofs.TableLemmas.{some_value}
 
 -- how often a reference is listed
-counts : (q r : CellRef) (rs : List CellRef) → times_listed (q ∷ rs) r ≡ cond (q.number == r.number) 1 0 + times_listed rs r
+pub counts : (q r : CellRef) (rs : List CellRef) → times_listed (q ∷ rs) r ≡ cond (q.number == r.number) 1 0 + times_listed rs r
 counts q r rs = sum_by-cons (λ (x : CellRef). cond (x.number == r.number) 1 0) q rs
 
-counts_it : (q r : CellRef) (rs : List CellRef) → q.number ≡ r.number → times_listed (q ∷ rs) r ≡ suc (times_listed rs r)
+pub counts_it : (q r : CellRef) (rs : List CellRef) → q.number ≡ r.number → times_listed (q ∷ rs) r ≡ suc (times_listed rs r)
 counts_it q r rs same = counts q r rs ∙ ap (λ (b : Bool). cond b 1 0 + times_listed rs r) (eq-eqb q.number r.number same) ∙ omega arith
 
-counts_more : (q r : CellRef) (rs : List CellRef) → times_listed rs r ≤ times_listed (q ∷ rs) r
+pub counts_more : (q r : CellRef) (rs : List CellRef) → times_listed rs r ≤ times_listed (q ∷ rs) r
 counts_more q r rs = let e = counts q r rs in omega arith
 
 listed_at : (rs : List CellRef) (i : ℕ) (r : CellRef) → i < length rs → (get_or rs i no_ref).number ≡ r.number → 1 ≤ times_listed rs r

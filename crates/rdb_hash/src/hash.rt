@@ -257,7 +257,7 @@ impl Index for Hash {
         }
     }
 
-    /// The cost grows with the number of entries.
+    /// The cost grows with the number of entries, beside a look at each of the 225 buckets.
     fn refs<C: Cells>(&self, cells: &C) -> Result<Refs, NoMemory> {
         let mut refs = List::new(self.alloc);
         for table in 0..INDEX_ROOTS {
