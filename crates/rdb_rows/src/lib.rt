@@ -1,0 +1,20 @@
+//! The versions of objects in cells: a header for each, and its row in a chain of row cells.
+#![tactic(auto)]
+
+mod decode;
+mod label;
+mod laws;
+mod rows;
+#[cfg(test)]
+mod tests;
+mod versions;
+
+pub use decode::row_in;
+pub use label::Label;
+pub use laws::{
+    a_place_has_one_version, a_put_version_keeps_the_others, versions_rest_on_their_cells,
+};
+pub use versions::{
+    VERSION_CELLS, change_older, give_back, id_in, is_tombstone, older_in, put_tombstone,
+    put_version, row_bytes, row_length, serial_in, stamp_in, with_stamp,
+};
