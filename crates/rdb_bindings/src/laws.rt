@@ -1,0 +1,34 @@
+//! Laws of filled lines, each the contract of a function that does nothing.
+
+ghost use Rattle.std.specs.Prelude.{◌≡◌, ℕ, Bool, IsTrue, List, slice_get, take, Some};
+ghost use Rattle.rdb_base.specs.declared.identity.Kind.{Kind};
+ghost use Rattle.rdb_base.specs.declared.operation.Op.{Op};
+ghost use Rattle.rdb_schema.specs.declared.schema.Schema.{Schema};
+ghost use Rattle.rdb_script.specs.declared.unit.Script.{Script};
+ghost use Rattle.rdb_script.specs.declared.unit.ScriptLine.{ScriptLine};
+ghost use Rattle.rdb_script.specs.declared.unit.Unit.TheVariants as unit;
+ghost use Rattle.rdb_script.specs.Scripts.{IsScript};
+ghost use Rattle.rdb_model.specs.Database.{Database, empty};
+ghost use Rattle.rdb_model.specs.Answer.{answer};
+ghost use Rattle.rdb_model.specs.Fits.{Fits};
+ghost use Rattle.rdb_bindings.specs.Filling.{Answered, lines_answered, lines_of, number_of, filled};
+ghost use Rattle.rdb_bindings.specs.Fitting.{PlacesFit, RowsHold, place_fits};
+
+/// Every line of a script fits under its transaction's kind, filled by whatever replies its lines were told last, where the key
+/// of each place that a `seek` was told fits the index that it looked in.
+pub fn filled_lines_fit()
+    ensures { (schema : Schema) (text : List ℕ) (script : Script) (answered : Answered)
+        (place at : ℕ) (kind : Kind) (retries : ℕ) (lines : List ScriptLine) (commits : Bool) (line : ScriptLine) →
+        IsScript schema text script → lines_answered answered ≡ lines_of script.units → PlacesFit schema answered →
+        slice_get script.units place ≡ Some (unit.Tx kind retries lines commits) → slice_get lines at ≡ Some line →
+        Fits schema (filled (take (number_of script.units place at) answered) line) kind }
+{}
+
+/// The plain database, where its rows have their classes' types, tells no place whose key doesn't fit; and so its rows stay
+/// after each operation that fits, from the empty database on.
+pub fn answers_fit()
+    ensures places { (schema : Schema) (db : Database) (op : Op) → RowsHold schema db → IsTrue (place_fits schema op (answer schema db op).0) }
+    ensures empty { (schema : Schema) (classes : ℕ) → RowsHold schema (empty classes) }
+    ensures after { (schema : Schema) (db : Database) (op : Op) (kind : Kind) → Fits schema op kind → RowsHold schema db →
+        RowsHold schema (answer schema db op).1 }
+{}

@@ -1,0 +1,10 @@
+//! Names of scripts, filled.
+
+use std::process::Abort;
+use std::test::Fail;
+
+#[test]
+fn nothing(rt: HostRuntime) -> Result<(), Fail> {
+    assert!(rt; true);
+    Ok(())
+}
