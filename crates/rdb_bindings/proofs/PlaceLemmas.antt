@@ -1,5 +1,6 @@
 -- The last element that passes a test, and its place.
-use Rattle.std.proofs.Common.{◌≡◌, ℕ, zero, suc, ◌+◌, Bool, true, false, cond, List, [], ◌∷◌, ◌++◌, length, map, take, slice_get, Option, Some, None, refl, ap, ◌∙◌}
+use Rattle.std.proofs.Common.{◌≡◌, ℕ, zero, suc, ◌+◌, Bool, true, false, cond, List, [], ◌∷◌, ◌++◌, length, map, take, slice_get, Option, Some, None, Result, Ok, Err, refl, ap, ◌∙◌}
+use Rattle.std.specs.Prelude.{IfOk, OnOk}
 use Rattle.std.specs.Option.{option_map, option_or}
 use Rattle.rdb_model.specs.Answer.{find_last}
 use Rattle.rdb_bindings.specs.Keeping.{last_place}
@@ -29,8 +30,8 @@ last_place-map f test [] = refl
 last_place-map f test (x ∷ xs) = ap (λ o. option_or (option_map suc o) (cond (test (f x)) (Some 0) None)) (last_place-map f test xs)
 
 pub find_last-map : {X Y : Type 0} (f : X → Y) (test : Y → Bool) (xs : List X) → find_last test (map f xs) ≡ option_map f (find_last (λ x. test (f x)) xs)
-find_last-map f test [] = refl
-find_last-map f test (x ∷ xs) =
+find_last-map {X = X} f test [] = refl
+find_last-map {X = X} f test (x ∷ xs) =
     ap (λ o. option_or o (cond (test (f x)) (Some (f x)) None)) (find_last-map f test xs) ∙ go (find_last (λ y. test (f y)) xs) (test (f x))
   where
     go : (o : Option X) (b : Bool) → option_or (option_map f o) (cond b (Some (f x)) None) ≡ option_map f (option_or o (cond b (Some x) None))
@@ -72,3 +73,12 @@ pub slice_get-map : {X Y : Type 0} (f : X → Y) (xs : List X) (n : ℕ) → sli
 slice_get-map f [] n = refl
 slice_get-map f (x ∷ xs) zero = refl
 slice_get-map f (x ∷ xs) (suc n) = slice_get-map f xs n
+
+-- what an Ok holds, carried over
+pub if_ok_then : {X E : Type 0} (P Q : X → Type 0) (r : Result X E) → ((x : X) → P x → Q x) → IfOk r P → IfOk r Q
+if_ok_then P Q (Ok x) f h = f x h
+if_ok_then P Q (Err e) f h = tt
+
+pub on_ok_then : {X E : Type 0} (P Q : Type 0) (r : Result X E) → (P → Q) → OnOk r P → OnOk r Q
+on_ok_then P Q (Ok x) f h = f h
+on_ok_then P Q (Err e) f h = tt

@@ -33,11 +33,12 @@ impl Bindings {
     pub fn new(alloc: Global, units: &Units) -> Result<Bindings, NoMemory>
         ensures { IfOk result (Keeps (unanswered (lines_of units.now))) }
     {
-        let survey = Survey::of(alloc, units)?;
-        Ok(Bindings {
-            sources: survey.sources,
-            referents: survey.referents,
-        })
+        let Survey {
+            sources,
+            referents,
+            ..
+        } = Survey::of(alloc, units)?;
+        Ok(Bindings { sources, referents })
     }
 
     /// Notes the reply to the line of that number, in place of an earlier one. A line that assigns no name needn't be noted.

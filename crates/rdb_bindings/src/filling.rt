@@ -11,7 +11,7 @@ use rdb_base::operation::Op;
 
 /// The operation with what a name stands for as its object or its place. What the name replaces isn't copied.
 pub(crate) fn with_referent(found: Option<&Referent>, op: &Op) -> Result<Op, NoMemory>
-    ensures { IfOk result (λ filled. filled ≡ with_referent (option_copied found) op.now) }
+    ensures { IfOk result (λ filled. filled ≡ with_referent (option_copied found.entry) op.now) }
 {
     Ok(match op {
         Op::Get { class, .. } => Op::Get {

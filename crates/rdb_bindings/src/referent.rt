@@ -52,7 +52,7 @@ pub(crate) fn given(reply: &Reply) -> Result<Option<Referent>, NoMemory>
 
 /// The id of the object that a name stands for. It takes no memory.
 pub(crate) fn target(found: Option<&Referent>) -> u64
-    ensures { result ≡ target (option_copied found) }
+    ensures { result ≡ target (option_copied found.entry) }
 {
     match found {
         Some(Referent::Object(id)) => *id,
@@ -70,7 +70,7 @@ fn beyond_all(up: bool) -> Place
 
 /// The place that a name stands for. The cost grows with its key, which is copied.
 pub(crate) fn origin(up: bool, found: Option<&Referent>) -> Result<Place, NoMemory>
-    ensures { IfOk result (λ place. place ≡ origin up (option_copied found)) }
+    ensures { IfOk result (λ place. place ≡ origin up (option_copied found.entry)) }
 {
     Ok(match found {
         Some(Referent::Found { key, id }) => Place::At {

@@ -71,8 +71,8 @@ impl Survey {
     fn add_lines(&mut self, lines: &ScriptLines) -> Result<(), NoMemory>
         ensures { OnOk result ((above : List Line) → IsSurvey above self.old → IsSurvey (above ++ lines.now) self.new) }
     {
-        let lines = lines.as_slice();
-        for line in lines {
+        let below = lines.as_slice();
+        for line in below {
             self.add_line(line)?;
         }
         Ok(())
@@ -94,8 +94,8 @@ impl Survey {
         ensures { IfOk result (IsSurvey (lines_of units.now)) }
     {
         let mut survey = Survey::new(alloc);
-        let units = units.as_slice();
-        for unit in units {
+        let all = units.as_slice();
+        for unit in all {
             survey.add_unit(unit)?;
         }
         Ok(survey)
