@@ -1,7 +1,7 @@
 -- The plain database keeps its rows' types, and tells no place whose key doesn't fit.
-use Rattle.std.proofs.Common.{◌≡◌, ℕ, zero, suc, Bool, true, false, ◌&&◌, ◌==◌, cond, not, List, [], ◌∷◌, map, slice_get, slice_set, replicate, nat_lt, Option, Some, None, is_none, refl, sym, ap, subst, ◌∙◌}
+use Rattle.std.proofs.Common.{◌≡◌, ℕ, zero, suc, Bool, true, false, ◌&&◌, ◌==◌, cond, not, List, [], ◌∷◌, slice_get, slice_set, nat_lt, Option, Some, None, is_none, refl, ap, ◌∙◌}
 use Rattle.std.specs.Prelude.{IfSome}
-use Rattle.std.specs.List.{AllByRecursion, find, filter, filter_map, cons_option}
+use Rattle.std.specs.List.{AllByRecursion, find, filter_map, cons_option}
 use Rattle.std.specs.Option.{option_map_or, option_or}
 use Rattle.std.specs.Ordering.{is_lt}
 use Rattle.rdb_base.specs.declared.identity.Kind.{Kind}
@@ -14,7 +14,7 @@ use Rattle.rdb_base.specs.declared.value.Value.{Value}
 use Rattle.rdb_schema.specs.declared.schema.Class.{Class}
 use Rattle.rdb_schema.specs.declared.schema.Field.{Field}
 use Rattle.rdb_schema.specs.declared.schema.Schema.{Schema}
-use Rattle.rdb_schema.specs.Indexes.{fields_of, indexes_of, key_fields}
+use Rattle.rdb_schema.specs.Indexes.{fields_of, indexes_of}
 use Rattle.rdb_schema.specs.Values.{holds, values_hold, row_holds}
 use Rattle.rdb_model.specs.Database.{Row, Objects, Database, empty, objects_of, with_objects, row_of, with_row, without}
 use Rattle.rdb_model.specs.Index.{key, pair_order, with_pair, pair_of, index}

@@ -1,5 +1,5 @@
 -- Each operation that a line may ask for fits, filled.
-use Rattle.std.proofs.Common.{◌≡◌, ℕ, ◌≤◌, Bool, true, false, ◌&&◌, List, length, nat_le, Option, Some, None, refl, sym, ap, subst, ◌∙◌}
+use Rattle.std.proofs.Common.{◌≡◌, ℕ, true, false, List, length, Option, Some, None, refl, sym, subst}
 use Rattle.std.specs.Option.{option_map_or}
 use Rattle.rdb_base.specs.declared.identity.Kind.{Kind}
 use Rattle.rdb_base.specs.declared.identity.Kind.TheVariants as mode
@@ -19,7 +19,7 @@ use Rattle.rdb_script.specs.declared.statement.Where.TheVariants as from_where
 use Rattle.rdb_script.specs.Lines.{word, behind, is_end, is_name}
 use Rattle.rdb_script.specs.Scripts.{may_have}
 use Rattle.rdb_script.specs.Statements.{Known, IsLastRow, IsOrigin, IsCall, holds_place}
-use Rattle.rdb_model.specs.Fits.{Fits, fits, fits_row, may_write, has_class, has_index}
+use Rattle.rdb_model.specs.Fits.{Fits, fits_row, may_write, has_class, has_index}
 use Rattle.rdb_model.proofs.FitsLemmas.{first_of, second_of}
 use Rattle.rdb_bindings.specs.Filling.{Answered, lines_answered, referent_of, with_referent}
 use Rattle.rdb_bindings.specs.Fitting.{PlacesFit}

@@ -1,5 +1,5 @@
 -- The place that a cursor stands for fits the index that its `seek` looked in.
-use Rattle.std.proofs.Common.{◌≡◌, ℕ, Bool, true, false, cond, ◌&&◌, ◌==◌, List, [], ◌∷◌, ◌++◌, map, slice_get, Option, Some, None, refl, sym, ap, ap₂, subst, ◌∙◌, eqb-true}
+use Rattle.std.proofs.Common.{◌≡◌, ℕ, Bool, true, false, ◌==◌, List, slice_get, Option, Some, None, refl, sym, ap, ap₂, ◌∙◌, eqb-true}
 use Rattle.std.specs.Option.{option_and_then, option_map, option_map_or}
 use Rattle.std.specs.FinMap.{get}
 use Rattle.rdb_base.specs.declared.operation.Op.{Op}
@@ -15,7 +15,6 @@ use Rattle.rdb_script.specs.Statements.{Known, is_place_of, holds_place}
 use Rattle.rdb_model.specs.Answer.{find_last}
 use Rattle.rdb_model.specs.Fits.{fits_key, fits_place}
 use Rattle.rdb_model.proofs.FitsLemmas.{first_of, second_of}
-use Rattle.rdb_bindings.specs.declared.referent.Referent.{Referent}
 use Rattle.rdb_bindings.specs.declared.referent.Referent.TheVariants as referent
 use Rattle.rdb_bindings.specs.Filling.{Answered, lines_answered, assigns, given, referent_of, origin}
 use Rattle.rdb_bindings.specs.Fitting.{place_fits, PlacesFit}

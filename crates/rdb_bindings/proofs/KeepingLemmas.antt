@@ -1,5 +1,5 @@
 -- What is kept of a script, read and written.
-use Rattle.std.proofs.Common.{◌≡◌, ℕ, zero, suc, Bool, List, [], ◌∷◌, ◌++◌, length, map, take, slice_get, slice_set, Option, Some, None, refl, sym, ap, ap₂, ◌∙◌, append_assoc}
+use Rattle.std.proofs.Common.{◌≡◌, ℕ, zero, suc, List, [], ◌∷◌, ◌++◌, map, take, slice_get, slice_set, Option, Some, None, refl, sym, ap, ap₂, ◌∙◌, append_assoc}
 use Rattle.std.specs.Option.{option_and_then, option_flatten, option_map, option_map_or}
 use Rattle.std.proofs.lemmas.List.{take-map, append-nil}
 use Rattle.rdb_base.specs.declared.operation.Op.{Op}
@@ -8,7 +8,7 @@ use Rattle.rdb_script.specs.declared.unit.ScriptLine.{ScriptLine}
 use Rattle.rdb_model.specs.Answer.{find_last}
 use Rattle.rdb_bindings.specs.declared.bindings.Bindings.{Bindings}
 use Rattle.rdb_bindings.specs.declared.referent.Referent.{Referent}
-use Rattle.rdb_bindings.specs.Filling.{Answered, lines_answered, unanswered, noted, assigns, given, reply_for, referent_of, with_referent, filled}
+use Rattle.rdb_bindings.specs.Filling.{Answered, lines_answered, unanswered, noted, assigns, given, referent_of, with_referent, filled}
 use Rattle.rdb_bindings.specs.Keeping.{last_place, source, sources_below, sources_of, kept, Keeps, referent_at}
 use Rattle.rdb_bindings.proofs.PlaceLemmas.{IsThere, last_there, last_place-map, slice_get-taken, slice_get-map}
 
@@ -28,7 +28,7 @@ keeps_none lines bindings sources referents = record {
 }
 
 -- a reply that is noted
-lines-noted : (answered : Answered) (number : ℕ) (told : Reply) → lines_answered (noted answered number told) ≡ lines_answered answered
+pub lines-noted : (answered : Answered) (number : ℕ) (told : Reply) → lines_answered (noted answered number told) ≡ lines_answered answered
 lines-noted [] number told = refl
 lines-noted (l ∷ ls) zero told = refl
 lines-noted (l ∷ ls) (suc number) told = ap (λ rest. l.0 ∷ rest) (lines-noted ls number told)

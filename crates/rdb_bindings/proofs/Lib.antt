@@ -7,3 +7,5 @@ pub mod CallFits
 pub mod ScriptFits
 pub mod LineFits
 pub mod AnswerFits
+pub mod NumberLemmas
+pub mod NotedFits

@@ -1,16 +1,12 @@
 -- Each line of a text that is a script fits, filled: line by line, as the text is read.
-use Rattle.std.proofs.Common.{◌≡◌, ℕ, Bool, true, false, ◌&&◌, not, cond, List, [], ◌∷◌, ◌++◌, length, map, Option, Some, None, is_some, refl, sym, ap, ap₂, subst, ◌∙◌, append_assoc}
-use Rattle.std.specs.List.{flat_map}
+use Rattle.std.proofs.Common.{◌≡◌, ℕ, Bool, true, false, not, cond, List, [], ◌∷◌, ◌++◌, Option, Some, None, is_some, refl, sym, ap, ap₂, subst, ◌∙◌, append_assoc}
 use Rattle.std.specs.Option.{option_and_then, option_map, option_map_or}
-use Rattle.std.specs.Ordering.{nat_cmp}
 use Rattle.std.specs.Str.{bytes_eq}
-use Rattle.std.specs.FinMap.{get, insert, get-insert, get-empty}
+use Rattle.std.specs.FinMap.{get, get-insert, get-empty}
 use Rattle.std.proofs.lemmas.Cmp.{nat_list_cmp_total}
 use Rattle.std.proofs.lemmas.List.{append-nil}
 use Rattle.std.proofs.lemmas.List.Concat.{flat_map-append}
 use Rattle.rdb_base.specs.declared.identity.Kind.{Kind}
-use Rattle.rdb_base.specs.declared.operation.Op.{Op}
-use Rattle.rdb_base.specs.declared.operation.Op.TheVariants as op
 use Rattle.rdb_schema.specs.declared.schema.Schema.{Schema}
 use Rattle.rdb_script.specs.declared.names.Assigned.{Assigned}
 use Rattle.rdb_script.specs.declared.progress.Progress.{Progress}
@@ -28,7 +24,7 @@ use Rattle.rdb_script.specs.declared.unit.Unit.{Unit as ScriptUnit}
 use Rattle.rdb_script.specs.declared.unit.Unit.TheVariants as unit
 use Rattle.rdb_script.specs.Lines.{word, behind, lines}
 use Rattle.rdb_script.specs.Statements.{Known, IsCall, IsAsked, IsSaidBy, assigns as may_assign, is_silent, is_assignment}
-use Rattle.rdb_script.specs.Scripts.{start, after, assign, assigned_by, ended, is_idle, may_have, may_stand, takes, with_ended, with_line, IsStep, Runs, IsScript}
+use Rattle.rdb_script.specs.Scripts.{start, after, assign, assigned_by, ended, is_idle, may_have, may_stand, takes, with_ended, with_line, Runs, IsScript}
 use Rattle.rdb_model.specs.Answer.{find_last}
 use Rattle.rdb_model.specs.Fits.{Fits}
 use Rattle.rdb_model.proofs.FitsLemmas.{first_of, second_of}

@@ -1,17 +1,17 @@
 -- A survey that goes on behind a line.
-use Rattle.std.proofs.Common.{◌≡◌, ℕ, suc, Bool, false, cond, List, [], ◌∷◌, ◌++◌, length, map, Option, Some, None, refl, sym, ap, ap₂, subst, ◌∙◌, append_assoc}
+use Rattle.std.proofs.Common.{◌≡◌, ℕ, suc, false, cond, List, [], ◌∷◌, ◌++◌, length, Option, Some, None, refl, sym, ap, ap₂, ◌∙◌, append_assoc}
 use Rattle.std.specs.Option.{option_and_then, option_map_or}
 use Rattle.std.specs.Ordering.{nat_cmp, is_eq}
 use Rattle.std.specs.Str.{bytes_eq}
 use Rattle.std.specs.Cmp.Lexicographic.{slice_cmp}
-use Rattle.std.specs.FinMap.{FinMap, get, insert, get-insert, get-empty}
+use Rattle.std.specs.FinMap.{FinMap, get, insert, get-insert}
 use Rattle.std.proofs.lemmas.Cmp.{nat_list_cmp_total, eq_by_cmp_equiv}
 use Rattle.std.proofs.lemmas.List.{append-nil, map-append}
 use Rattle.std.proofs.lemmas.Map.Text.{is_eq-slice_cmp}
 use Rattle.rdb_script.specs.declared.unit.ScriptLine.{ScriptLine}
 use Rattle.rdb_bindings.specs.declared.survey.Survey.{Survey}
 use Rattle.rdb_bindings.specs.Filling.{assigns}
-use Rattle.rdb_bindings.specs.Keeping.{last_place, source, sources_below, sources_of, IsSurvey}
+use Rattle.rdb_bindings.specs.Keeping.{last_place, source, sources_below, IsSurvey}
 use Rattle.rdb_bindings.proofs.PlaceLemmas.{last_place_more}
 
 pub same_name : (own name : List ℕ) → is_eq (slice_cmp nat_cmp name own) ≡ bytes_eq own name
@@ -42,13 +42,13 @@ survey_none new last sources referents = record { last = last; sources = sources
 pub survey_more : (above : List ScriptLine) (line : ScriptLine) (old new : Survey) → IsSurvey above old → new.sources ≡ old.sources ++ option_and_then (get old.assigners) line.from ∷ [] → new.referents ≡ old.referents ++ None ∷ [] → new.assigners ≡ option_map_or (λ name. insert old.assigners name (length old.sources)) line.name old.assigners → IsSurvey (above ++ line ∷ []) new
 survey_more above line old new is sources referents assigners = record {
   last = λ name.
-    ap (λ m. get m name) assigners
-    ∙ assigned_more old.assigners (length old.sources) line.name name
-    ∙ ap₂ (λ n o. cond (assigns name line) (Some n) o) (ap length is.sources ∙ length-sources [] above) (is.last name)
-    ∙ sym (last_place_more (assigns name) above line);
+      ap (λ m. get m name) assigners
+      ∙ assigned_more old.assigners (length old.sources) line.name name
+      ∙ ap₂ (λ n o. cond (assigns name line) (Some n) o) (ap length is.sources ∙ length-sources [] above) (is.last name)
+      ∙ sym (last_place_more (assigns name) above line);
   sources =
-    sources
-    ∙ ap₂ (λ ss s. ss ++ s ∷ []) is.sources (source_by old.assigners above is.last line.from)
-    ∙ sym (sources_more [] above line);
+      sources
+      ∙ ap₂ (λ ss s. ss ++ s ∷ []) is.sources (source_by old.assigners above is.last line.from)
+      ∙ sym (sources_more [] above line);
   referents = referents ∙ ap (λ rs. rs ++ None ∷ []) is.referents ∙ sym (map-append (λ _. None) above (line ∷ []));
 }

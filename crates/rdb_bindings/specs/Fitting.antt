@@ -1,5 +1,5 @@
 -- When the operations that a script's lines ask for fit.
-use Rattle.std.specs.Prelude.{◌≡◌, ℕ, Bool, true, IsTrue, List, slice_get, Some}
+use Rattle.std.specs.Prelude.{◌≡◌, ℕ, Bool, true, IsTrue, slice_get, Some}
 use Rattle.std.specs.List.{AllByRecursion}
 use Rattle.rdb_base.specs.declared.operation.Op.{Op}
 use Rattle.rdb_base.specs.declared.operation.Op.TheVariants as op

@@ -41,6 +41,13 @@ impl Bindings {
         Ok(Bindings { sources, referents })
     }
 
+    /// How many lines the script has.
+    pub fn len(&self) -> usize
+        ensures { result ≡ length self.now.referents }
+    {
+        self.referents.len()
+    }
+
     /// Notes the reply to the line of that number, in place of an earlier one. A line that assigns no name needn't be noted.
     /// Where memory is wanting all stays. The cost is constant but for the copy of a place's key.
     pub fn note(&mut self, number: usize, reply: &Reply) -> Result<(), NoMemory>

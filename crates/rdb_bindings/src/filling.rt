@@ -38,10 +38,7 @@ pub(crate) fn with_referent(found: Option<&Referent>, op: &Op) -> Result<Op, NoM
             place: origin(*up, found)?,
             up: *up,
         },
-        Op::New { .. }
-        | Op::Find { .. }
-        | Op::Area { .. }
-        | Op::Prefix { .. }
-        | Op::Count { .. } => op.duplicate()?,
+        Op::New { .. } | Op::Find { .. } | Op::Area { .. } | Op::Prefix { .. } | Op::Count { .. } =>
+            op.duplicate()?,
     })
 }

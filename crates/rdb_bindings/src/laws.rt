@@ -1,18 +1,42 @@
 //! Laws of filled lines, each the contract of a function that does nothing.
 
-ghost use Rattle.std.specs.Prelude.{◌≡◌, ℕ, Bool, IsTrue, List, slice_get, take, Some};
+ghost use Rattle.std.specs.Prelude.{◌≡◌, ℕ, ◌+◌, Bool, IsTrue, List, length, slice_get, take, Some};
 ghost use Rattle.rdb_base.specs.declared.identity.Kind.{Kind};
 ghost use Rattle.rdb_base.specs.declared.operation.Op.{Op};
+ghost use Rattle.rdb_base.specs.declared.operation.Reply.{Reply};
 ghost use Rattle.rdb_schema.specs.declared.schema.Schema.{Schema};
 ghost use Rattle.rdb_script.specs.declared.unit.Script.{Script};
 ghost use Rattle.rdb_script.specs.declared.unit.ScriptLine.{ScriptLine};
+ghost use Rattle.rdb_script.specs.declared.unit.Unit.{Unit as ScriptUnit};
 ghost use Rattle.rdb_script.specs.declared.unit.Unit.TheVariants as unit;
 ghost use Rattle.rdb_script.specs.Scripts.{IsScript};
 ghost use Rattle.rdb_model.specs.Database.{Database, empty};
 ghost use Rattle.rdb_model.specs.Answer.{answer};
 ghost use Rattle.rdb_model.specs.Fits.{Fits};
-ghost use Rattle.rdb_bindings.specs.Filling.{Answered, lines_answered, lines_of, number_of, filled};
+ghost use Rattle.rdb_bindings.specs.Filling.{Answered, lines_answered, unanswered, noted, lines_in, lines_of, number_of, filled};
 ghost use Rattle.rdb_bindings.specs.Fitting.{PlacesFit, RowsHold, place_fits};
+
+/// Lines are numbered in order through the units of a script: the first unit's begin at 0, and the next unit's go on behind those of
+/// the one before. So whoever goes through a script keeps one number, and the line of that number is the one at hand.
+pub fn lines_are_numbered()
+    ensures first { (units : List ScriptUnit) → number_of units 0 0 ≡ 0 }
+    ensures next { (units : List ScriptUnit) (place : ℕ) (u : ScriptUnit) →
+        slice_get units place ≡ Some u → number_of units (place + 1) 0 ≡ number_of units place 0 + length (lines_in u) }
+    ensures line { (units : List ScriptUnit) (place at : ℕ) (u : ScriptUnit) (line : ScriptLine) →
+        slice_get units place ≡ Some u → slice_get (lines_in u) at ≡ Some line →
+        slice_get (lines_of units) (number_of units place at) ≡ Some line }
+{}
+
+/// The places that lines were told fit before the first reply, and still with one more reply to a line whose operation, filled by
+/// any replies, was told a place that fits. The lines stay.
+pub fn noted_places_fit()
+    ensures start { (schema : Schema) (lines : List ScriptLine) → PlacesFit schema (unanswered lines) }
+    ensures noted { (schema : Schema) (above answered : Answered) (number : ℕ) (line : ScriptLine) (told : Reply) →
+        PlacesFit schema answered → slice_get (lines_answered answered) number ≡ Some line →
+        IsTrue (place_fits schema (filled above line) told) → PlacesFit schema (noted answered number told) }
+    ensures lines { (answered : Answered) (number : ℕ) (told : Reply) →
+        lines_answered (noted answered number told) ≡ lines_answered answered }
+{}
 
 /// Every line of a script fits under its transaction's kind, filled by whatever replies its lines were told last, where the key
 /// of each place that a `seek` was told fits the index that it looked in.

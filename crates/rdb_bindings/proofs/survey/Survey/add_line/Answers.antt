@@ -1,5 +1,5 @@
 -- One line more.
-use Rattle.std.proofs.Common.{List, ◌++◌, ◌∷◌, [], ℕ, Option, ap, ◌∙◌}
+use Rattle.std.proofs.Common.{◌++◌, ◌∷◌, [], ℕ, Option, ap, ◌∙◌}
 use Rattle.std.specs.Option.{option_map_or}
 use Rattle.std.specs.FinMap.{insert}
 use Rattle.rdb_bindings.specs.declared.survey.Survey.{Survey}
@@ -11,8 +11,8 @@ pub returns : goal.returns
 returns c =
     on_ok_then _ _ c.assign.result
     (λ is above far.
-        survey_more above c.args.line.now c.args.self.now c.assign.new.self far
-        (ap (λ (s : Survey). s.sources) is ∙ c.in_ok-push.ensures.ok ∙ ap (λ (s : Option ℕ). c.args.self.now.sources ++ s ∷ []) c.source-source.ensures)
-        (ap (λ (s : Survey). s.referents) is ∙ c.in_ok-push-2.ensures.ok)
-        (ap (λ (s : Survey). s.assigners) is ∙ ap (λ (n : ℕ). option_map_or (λ name. insert c.args.self.now.assigners name n) c.args.line.now.name c.args.self.now.assigners) c.len-number.ensures))
+    survey_more above c.args.line.now c.args.self.now c.assign.new.self far
+    (ap (λ (s : Survey). s.sources) is ∙ c.in_ok-push.ensures.ok ∙ ap (λ (s : Option ℕ). c.args.self.now.sources ++ s ∷ []) c.source-source.ensures)
+    (ap (λ (s : Survey). s.referents) is ∙ c.in_ok-push-2.ensures.ok)
+    (ap (λ (s : Survey). s.assigners) is ∙ ap (λ (n : ℕ). option_map_or (λ name. insert c.args.self.now.assigners name n) c.args.line.now.name c.args.self.now.assigners) c.len-number.ensures))
     c.assign.ensures
