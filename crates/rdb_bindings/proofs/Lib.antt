@@ -9,3 +9,4 @@ pub mod LineFits
 pub mod AnswerFits
 pub mod NumberLemmas
 pub mod NotedFits
+pub mod FoldFits

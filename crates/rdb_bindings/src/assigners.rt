@@ -1,6 +1,6 @@
 //! Which line assigned each name last.
 
-ghost use Rattle.std.specs.Prelude.{◌≡◌, OnOk};
+ghost use Rattle.std.specs.Prelude.{◌≡◌, OnOk, OnErr};
 ghost use Rattle.std.specs.FinMap as map;
 
 use rdb_base::list::NoMemory;
@@ -51,7 +51,8 @@ impl Assigners {
 
     /// Notes that a line assigns the name. The cost grows with the logarithm of the number of names.
     pub(crate) fn assign(&mut self, name: &str, number: usize) -> Result<(), NoMemory>
-        ensures { OnOk result (self.new ≡ map.insert self.old name.now number) }
+        ensures ok { OnOk result (self.new ≡ map.insert self.old name.now number) }
+        ensures err { OnErr result (self.new ≡ self.old) }
     {
         let key = String::from_str(self.alloc, name)?;
         self.last.insert(key, number)?;

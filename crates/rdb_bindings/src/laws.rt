@@ -1,7 +1,9 @@
 //! Laws of filled lines, each the contract of a function that does nothing.
 
 ghost use Rattle.std.specs.Prelude.{◌≡◌, ℕ, ◌+◌, Bool, IsTrue, List, length, slice_get, take, Some};
+ghost use Rattle.std.specs.List.{All};
 ghost use Rattle.rdb_base.specs.declared.identity.Kind.{Kind};
+ghost use Rattle.rdb_base.specs.declared.journal.Entry.{Entry};
 ghost use Rattle.rdb_base.specs.declared.operation.Op.{Op};
 ghost use Rattle.rdb_base.specs.declared.operation.Reply.{Reply};
 ghost use Rattle.rdb_schema.specs.declared.schema.Schema.{Schema};
@@ -12,7 +14,10 @@ ghost use Rattle.rdb_script.specs.declared.unit.Unit.TheVariants as unit;
 ghost use Rattle.rdb_script.specs.Scripts.{IsScript};
 ghost use Rattle.rdb_model.specs.Database.{Database, empty};
 ghost use Rattle.rdb_model.specs.Answer.{answer};
-ghost use Rattle.rdb_model.specs.Fits.{Fits};
+ghost use Rattle.rdb_model.specs.Fits.{Fits, AllFit};
+ghost use Rattle.rdb_model.specs.FirstFault.{FitsEntry};
+ghost use Rattle.rdb_model.specs.Journal.{fold};
+ghost use Rattle.rdb_model.specs.Story.{after};
 ghost use Rattle.rdb_bindings.specs.Filling.{Answered, lines_answered, unanswered, noted, lines_in, lines_of, number_of, filled};
 ghost use Rattle.rdb_bindings.specs.Fitting.{PlacesFit, RowsHold, place_fits};
 
@@ -48,11 +53,18 @@ pub fn filled_lines_fit()
         Fits schema (filled (take (number_of script.units place at) answered) line) kind }
 {}
 
-/// The plain database, where its rows have their classes' types, tells no place whose key doesn't fit; and so its rows stay
-/// after each operation that fits, from the empty database on.
-pub fn answers_fit()
-    ensures places { (schema : Schema) (db : Database) (op : Op) → RowsHold schema db → IsTrue (place_fits schema op (answer schema db op).0) }
+/// The plain database, where its rows have their classes' types, tells no place whose key doesn't fit.
+pub fn told_places_fit()
+    ensures { (schema : Schema) (db : Database) (op : Op) → RowsHold schema db → IsTrue (place_fits schema op (answer schema db op).0) }
+{}
+
+/// Rows have their classes' types in the empty database, after an operation that fits, after a story whose operations fit, and after
+/// the first commits of a journal whose entries fit.
+pub fn rows_stay_of_their_types()
     ensures empty { (schema : Schema) (classes : ℕ) → RowsHold schema (empty classes) }
-    ensures after { (schema : Schema) (db : Database) (op : Op) (kind : Kind) → Fits schema op kind → RowsHold schema db →
-        RowsHold schema (answer schema db op).1 }
+    ensures answer { (schema : Schema) (db : Database) (op : Op) (kind : Kind) →
+        Fits schema op kind → RowsHold schema db → RowsHold schema (answer schema db op).1 }
+    ensures story { (schema : Schema) (db : Database) (done : List (Op × Reply)) (kind : Kind) →
+        AllFit schema kind done → RowsHold schema db → RowsHold schema (after schema db done) }
+    ensures fold { (schema : Schema) (journal : List Entry) (n : ℕ) → All (FitsEntry schema) journal → RowsHold schema (fold schema journal n) }
 {}
