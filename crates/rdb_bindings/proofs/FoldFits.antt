@@ -1,5 +1,5 @@
 -- The rows of the database after operations that fit, and after the commits of a journal whose operations fit.
-use Rattle.std.proofs.Common.{◌≡◌, ℕ, zero, suc, ◌<◌, List, [], ◌∷◌, length, take, Some, None, refl, arith}
+use Rattle.std.proofs.Common.{ℕ, zero, suc, List, [], ◌∷◌, length, take, arith}
 use Rattle.std.specs.List.{All, AllByRecursion, filter_map}
 use Rattle.rdb_base.specs.declared.identity.Kind.{Kind}
 use Rattle.rdb_base.specs.declared.identity.Kind.TheVariants as kind

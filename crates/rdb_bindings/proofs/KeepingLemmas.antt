@@ -1,7 +1,7 @@
 -- What is kept of a script, read and written.
-use Rattle.std.proofs.Common.{◌≡◌, ℕ, zero, suc, List, [], ◌∷◌, ◌++◌, map, take, slice_get, slice_set, Option, Some, None, refl, sym, ap, ap₂, ◌∙◌, append_assoc}
+use Rattle.std.proofs.Common.{◌≡◌, ℕ, zero, suc, List, [], ◌∷◌, ◌++◌, map, take, slice_get, slice_set, Option, Some, None, refl, sym, ap, ap₂, ◌∙◌, append_assoc, length}
 use Rattle.std.specs.Option.{option_and_then, option_flatten, option_map, option_map_or}
-use Rattle.std.proofs.lemmas.List.{take-map, append-nil}
+use Rattle.std.proofs.lemmas.List.{append-nil, length-map, take-map}
 use Rattle.rdb_base.specs.declared.operation.Op.{Op}
 use Rattle.rdb_base.specs.declared.operation.Reply.{Reply}
 use Rattle.rdb_script.specs.declared.unit.ScriptLine.{ScriptLine}
@@ -13,7 +13,7 @@ use Rattle.rdb_bindings.specs.Keeping.{last_place, source, sources_below, source
 use Rattle.rdb_bindings.proofs.PlaceLemmas.{IsThere, last_there, last_place-map, slice_get-taken, slice_get-map}
 
 -- before the first reply
-lines-unanswered : (lines : List ScriptLine) → lines_answered (unanswered lines) ≡ lines
+pub lines-unanswered : (lines : List ScriptLine) → lines_answered (unanswered lines) ≡ lines
 lines-unanswered [] = refl
 lines-unanswered (line ∷ lines) = ap (λ ls. line ∷ ls) (lines-unanswered lines)
 
@@ -44,6 +44,10 @@ keeps_noted answered number told old new sources referents is = record {
   referents = referents ∙ ap (λ rs. slice_set rs number (given told)) is.referents ∙ sym (kept-noted answered number told);
 }
 
+-- something is kept for each line
+pub kept-length : (answered : Answered) (bindings : Bindings) → Keeps answered bindings → length bindings.referents ≡ length answered
+kept-length answered bindings is = ap length is.referents ∙ length-map answered kept
+
 -- the source of a line is kept at its number
 source_below : (above lines : List ScriptLine) (number : ℕ) (line : ScriptLine) → slice_get lines number ≡ Some line → slice_get (sources_below above lines) number ≡ Some (source (above ++ take number lines) line)
 source_below above [] number line e = absurd (cc)
@@ -70,13 +74,9 @@ referent_there answered bindings number line name is there from =
     ∙ ap (λ (o : Option ℕ). option_and_then (λ n. option_flatten (slice_get (map kept answered) n)) o) (ap (last_place (assigns name)) (take-map (λ (l : ScriptLine × Option Reply). l.0) number answered) ∙ last_place-map (λ (l : ScriptLine × Option Reply). l.0) (assigns name) (take number answered))
     ∙ kept_at answered number name (last_place (λ l. assigns name l.0) (take number answered)) (find_last (λ l. assigns name l.0) (take number answered)) (last_there (λ l. assigns name l.0) (take number answered))
 
--- the operation that such a line asks for, and that of a line that uses no name
+-- the operation that such a line asks for
 pub filled_there : (answered : Answered) (bindings : Bindings) (number : ℕ) (line : ScriptLine) (name : List ℕ) (asked : Op) → asked ≡ with_referent (referent_at bindings number) line.op → line.from ≡ Some name → Keeps answered bindings → slice_get (lines_answered answered) number ≡ Some line → asked ≡ filled (take number answered) line
 filled_there answered bindings number line name asked is from keeps there =
     is
     ∙ ap (λ found. with_referent found line.op) (referent_there answered bindings number line name keeps there from)
     ∙ sym (ap (λ (o : Option (List ℕ)). option_map_or (λ own. with_referent (referent_of own (take number answered)) line.op) o line.op) from)
-
-pub filled_alone : (above : Answered) (line : ScriptLine) (asked : Op) → asked ≡ line.op → line.from ≡ None → asked ≡ filled above line
-filled_alone above line asked is from =
-    is ∙ sym (ap (λ (o : Option (List ℕ)). option_map_or (λ own. with_referent (referent_of own above) line.op) o line.op) from)

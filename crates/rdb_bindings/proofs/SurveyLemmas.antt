@@ -4,14 +4,14 @@ use Rattle.std.specs.Option.{option_and_then, option_map_or}
 use Rattle.std.specs.Ordering.{nat_cmp, is_eq}
 use Rattle.std.specs.Str.{bytes_eq}
 use Rattle.std.specs.Cmp.Lexicographic.{slice_cmp}
-use Rattle.std.specs.FinMap.{FinMap, get, insert, get-insert}
+use Rattle.std.specs.FinMap.{FinMap, get, get-insert}
 use Rattle.std.proofs.lemmas.Cmp.{nat_list_cmp_total, eq_by_cmp_equiv}
 use Rattle.std.proofs.lemmas.List.{append-nil, map-append}
 use Rattle.std.proofs.lemmas.Map.Text.{is_eq-slice_cmp}
 use Rattle.rdb_script.specs.declared.unit.ScriptLine.{ScriptLine}
 use Rattle.rdb_bindings.specs.declared.survey.Survey.{Survey}
 use Rattle.rdb_bindings.specs.Filling.{assigns}
-use Rattle.rdb_bindings.specs.Keeping.{last_place, source, sources_below, IsSurvey}
+use Rattle.rdb_bindings.specs.Keeping.{assigned, last_place, source, sources_below, IsSurvey}
 use Rattle.rdb_bindings.proofs.PlaceLemmas.{last_place_more}
 
 pub same_name : (own name : List ℕ) → is_eq (slice_cmp nat_cmp name own) ≡ bytes_eq own name
@@ -28,7 +28,7 @@ sources_more above (l ∷ ls) line =
     ∙ ap (λ (all : List ScriptLine). source above l ∷ (sources_below (above ++ l ∷ []) ls ++ source all line ∷ [])) (append_assoc above (l ∷ []) ls)
 
 -- the map behind a line answers for one line more
-assigned_more : (m : FinMap (slice_cmp nat_cmp) ℕ) (number : ℕ) (own : Option (List ℕ)) (name : List ℕ) → get (option_map_or (λ n. insert m n number) own m) name ≡ cond (option_map_or (λ o. bytes_eq o name) own false) (Some number) (get m name)
+assigned_more : (m : FinMap (slice_cmp nat_cmp) ℕ) (number : ℕ) (own : Option (List ℕ)) (name : List ℕ) → get (assigned m number own) name ≡ cond (option_map_or (λ o. bytes_eq o name) own false) (Some number) (get m name)
 assigned_more m number None name = refl
 assigned_more m number (Some own) name = get-insert nat_list_cmp_total m own number name ∙ ap (λ b. cond b (Some number) (get m name)) (same_name own name)
 
@@ -39,7 +39,7 @@ source_by m above last (Some name) = last name
 pub survey_none : (new : Survey) → ((name : List ℕ) → get new.assigners name ≡ None) → new.sources ≡ [] → new.referents ≡ [] → IsSurvey [] new
 survey_none new last sources referents = record { last = last; sources = sources; referents = referents }
 
-pub survey_more : (above : List ScriptLine) (line : ScriptLine) (old new : Survey) → IsSurvey above old → new.sources ≡ old.sources ++ option_and_then (get old.assigners) line.from ∷ [] → new.referents ≡ old.referents ++ None ∷ [] → new.assigners ≡ option_map_or (λ name. insert old.assigners name (length old.sources)) line.name old.assigners → IsSurvey (above ++ line ∷ []) new
+pub survey_more : (above : List ScriptLine) (line : ScriptLine) (old new : Survey) → IsSurvey above old → new.sources ≡ old.sources ++ option_and_then (get old.assigners) line.from ∷ [] → new.referents ≡ old.referents ++ None ∷ [] → new.assigners ≡ assigned old.assigners (length old.sources) line.name → IsSurvey (above ++ line ∷ []) new
 survey_more above line old new is sources referents assigners = record {
   last = λ name.
       ap (λ m. get m name) assigners

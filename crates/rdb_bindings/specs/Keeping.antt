@@ -1,7 +1,9 @@
 -- What bindings keep of a script and of the replies to its lines.
 use Rattle.std.specs.Prelude.{◌≡◌, ℕ, suc, Bool, List, [], ◌∷◌, ◌++◌, map, slice_get, if◌then◌else◌, Option, Some, None}
 use Rattle.std.specs.Option.{option_and_then, option_flatten, option_map, option_or}
-use Rattle.std.specs.FinMap.{get}
+use Rattle.std.specs.Ordering.{nat_cmp}
+use Rattle.std.specs.Cmp.Lexicographic.{slice_cmp}
+use Rattle.std.specs.FinMap.{FinMap, get, insert}
 use Rattle.rdb_base.specs.declared.operation.Reply.{Reply}
 use Rattle.rdb_script.specs.declared.unit.ScriptLine.{ScriptLine}
 use Rattle.rdb_bindings.specs.declared.referent.Referent.{Referent}
@@ -40,6 +42,11 @@ pub record Keeps (answered : Answered) (bindings : Bindings) : Type 0 where
 abbrev pub referent_at : Bindings → ℕ → Option Referent
 referent_at bindings number =
     option_and_then (λ n. option_flatten (slice_get bindings.referents n)) (option_flatten (slice_get bindings.sources number))
+
+-- the last lines that assign names, with a further line of that number, which may assign one
+abbrev pub assigned : FinMap (slice_cmp nat_cmp) ℕ → ℕ → Option (List ℕ) → FinMap (slice_cmp nat_cmp) ℕ
+assigned last number None = last
+assigned last number (Some name) = insert last name number
 
 -- lines that were surveyed: the last of them that assigns each name, the source of each, and room for what its reply gives
 pub record IsSurvey (lines : List ScriptLine) (survey : Survey) : Type 0 where

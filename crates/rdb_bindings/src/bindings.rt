@@ -42,7 +42,7 @@ impl Bindings {
     }
 
     /// How many lines the script has.
-    pub fn len(&self) -> usize
+    pub fn lines(&self) -> usize
         ensures { result ≡ length self.now.referents }
     {
         self.referents.len()

@@ -18,7 +18,9 @@ ghost use Rattle.rdb_model.specs.Fits.{Fits, AllFit};
 ghost use Rattle.rdb_model.specs.FirstFault.{FitsEntry};
 ghost use Rattle.rdb_model.specs.Journal.{fold};
 ghost use Rattle.rdb_model.specs.Story.{after};
+ghost use Rattle.rdb_bindings.specs.declared.bindings.Bindings.{Bindings};
 ghost use Rattle.rdb_bindings.specs.Filling.{Answered, lines_answered, unanswered, noted, lines_in, lines_of, number_of, filled};
+ghost use Rattle.rdb_bindings.specs.Keeping.{Keeps};
 ghost use Rattle.rdb_bindings.specs.Fitting.{PlacesFit, RowsHold, place_fits};
 
 /// Lines are numbered in order through the units of a script: the first unit's begin at 0, and the next unit's go on behind those of
@@ -32,15 +34,22 @@ pub fn lines_are_numbered()
         slice_get (lines_of units) (number_of units place at) ≡ Some line }
 {}
 
+/// Replies leave the lines as they are, and bindings keep something for each line.
+pub fn replies_leave_the_lines()
+    ensures none { (lines : List ScriptLine) → lines_answered (unanswered lines) ≡ lines }
+    ensures noted { (answered : Answered) (number : ℕ) (told : Reply) →
+        lines_answered (noted answered number told) ≡ lines_answered answered }
+    ensures kept { (answered : Answered) (bindings : Bindings) →
+        Keeps answered bindings → length bindings.referents ≡ length answered }
+{}
+
 /// The places that lines were told fit before the first reply, and still with one more reply to a line whose operation, filled by
-/// any replies, was told a place that fits. The lines stay.
+/// any replies, was told a place that fits.
 pub fn noted_places_fit()
-    ensures start { (schema : Schema) (lines : List ScriptLine) → PlacesFit schema (unanswered lines) }
+    ensures none { (schema : Schema) (lines : List ScriptLine) → PlacesFit schema (unanswered lines) }
     ensures noted { (schema : Schema) (above answered : Answered) (number : ℕ) (line : ScriptLine) (told : Reply) →
         PlacesFit schema answered → slice_get (lines_answered answered) number ≡ Some line →
         IsTrue (place_fits schema (filled above line) told) → PlacesFit schema (noted answered number told) }
-    ensures lines { (answered : Answered) (number : ℕ) (told : Reply) →
-        lines_answered (noted answered number told) ≡ lines_answered answered }
 {}
 
 /// Every line of a script fits under its transaction's kind, filled by whatever replies its lines were told last, where the key
@@ -55,7 +64,8 @@ pub fn filled_lines_fit()
 
 /// The plain database, where its rows have their classes' types, tells no place whose key doesn't fit.
 pub fn told_places_fit()
-    ensures { (schema : Schema) (db : Database) (op : Op) → RowsHold schema db → IsTrue (place_fits schema op (answer schema db op).0) }
+    ensures { (schema : Schema) (db : Database) (op : Op) →
+        RowsHold schema db → IsTrue (place_fits schema op (answer schema db op).0) }
 {}
 
 /// Rows have their classes' types in the empty database, after an operation that fits, after a story whose operations fit, and after
@@ -66,5 +76,6 @@ pub fn rows_stay_of_their_types()
         Fits schema op kind → RowsHold schema db → RowsHold schema (answer schema db op).1 }
     ensures story { (schema : Schema) (db : Database) (done : List (Op × Reply)) (kind : Kind) →
         AllFit schema kind done → RowsHold schema db → RowsHold schema (after schema db done) }
-    ensures fold { (schema : Schema) (journal : List Entry) (n : ℕ) → All (FitsEntry schema) journal → RowsHold schema (fold schema journal n) }
+    ensures fold { (schema : Schema) (journal : List Entry) (n : ℕ) →
+        All (FitsEntry schema) journal → RowsHold schema (fold schema journal n) }
 {}

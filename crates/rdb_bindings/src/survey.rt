@@ -1,11 +1,11 @@
 //! Goes through a script once, and finds for each line the line from whose reply it takes its object or its place.
 
 ghost use Rattle.std.specs.Prelude.{◌≡◌, ◌∷◌, [], ◌++◌, ℕ, List, OnOk, IfOk};
-ghost use Rattle.std.specs.Option.{option_and_then, option_map_or};
+ghost use Rattle.std.specs.Option.{option_and_then};
 ghost use Rattle.std.specs.FinMap as map;
 ghost use Rattle.rdb_script.specs.declared.unit.ScriptLine.{ScriptLine as Line};
 ghost use Rattle.rdb_bindings.specs.Filling.{lines_in, lines_of};
-ghost use Rattle.rdb_bindings.specs.Keeping.{IsSurvey};
+ghost use Rattle.rdb_bindings.specs.Keeping.{IsSurvey, assigned};
 
 use crate::assigners::Assigners;
 use crate::referent::Referents;
@@ -48,7 +48,7 @@ impl Survey {
 
     /// Notes what the line of that number assigns.
     fn assign(&mut self, line: &ScriptLine, number: usize) -> Result<(), NoMemory>
-        ensures { OnOk result (self.new ≡ record self.old { assigners = option_map_or (λ name. map.insert self.old.assigners name number) line.now.name self.old.assigners }) }
+        ensures { OnOk result (self.new ≡ record self.old { assigners = assigned self.old.assigners number line.now.name }) }
     {
         if let Some(name) = &line.name {
             self.assigners.assign(name.as_str(), number)?;

@@ -159,7 +159,7 @@ fn place(alloc: Global, n: i128, id: u64) -> Result<Place, NoMemory> {
 }
 
 fn note(rt: &impl Abort, bindings: &mut Bindings, at: usize, reply: Reply) -> Result<(), NoMemory> {
-    assert!(rt; at < bindings.len());
+    assert!(rt; at < bindings.lines());
     bindings.note(at, &reply)
 }
 

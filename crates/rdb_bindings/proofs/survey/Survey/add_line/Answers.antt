@@ -1,8 +1,7 @@
 -- One line more.
 use Rattle.std.proofs.Common.{◌++◌, ◌∷◌, [], ℕ, Option, ap, ◌∙◌}
-use Rattle.std.specs.Option.{option_map_or}
-use Rattle.std.specs.FinMap.{insert}
 use Rattle.rdb_bindings.specs.declared.survey.Survey.{Survey}
+use Rattle.rdb_bindings.specs.Keeping.{assigned}
 use Rattle.rdb_bindings.proofs.PlaceLemmas.{on_ok_then}
 use Rattle.rdb_bindings.proofs.SurveyLemmas.{survey_more}
 use Rattle.rdb_bindings.proofs.survey.Survey.add_line.Goals as goal
@@ -14,5 +13,5 @@ returns c =
     survey_more above c.args.line.now c.args.self.now c.assign.new.self far
     (ap (λ (s : Survey). s.sources) is ∙ c.in_ok-push.ensures.ok ∙ ap (λ (s : Option ℕ). c.args.self.now.sources ++ s ∷ []) c.source-source.ensures)
     (ap (λ (s : Survey). s.referents) is ∙ c.in_ok-push-2.ensures.ok)
-    (ap (λ (s : Survey). s.assigners) is ∙ ap (λ (n : ℕ). option_map_or (λ name. insert c.args.self.now.assigners name n) c.args.line.now.name c.args.self.now.assigners) c.len-number.ensures))
+    (ap (λ (s : Survey). s.assigners) is ∙ ap (λ (n : ℕ). assigned c.args.self.now.assigners n c.args.line.now.name) c.len-number.ensures))
     c.assign.ensures
