@@ -37,7 +37,8 @@ fn leaf_size(ty: FieldType) -> Option<usize>
 }
 
 fn group_size(types: &LeafTypes) -> Option<usize>
-    ensures { IfSome result (λ size. (ls : List Leaf) → all_pairs leaf_holds types.now ls ≡ true → length (leaves_bytes types.now ls) ≡ size) }
+    ensures { IfSome result (λ size. (ls : List Leaf) → all_pairs leaf_holds types.now ls ≡ true
+        → length (leaves_bytes types.now ls) ≡ size) }
 {
     let mut total: usize = 0;
     for at in 0..types.len() {
