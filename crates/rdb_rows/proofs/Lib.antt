@@ -16,3 +16,4 @@ pub mod KeyRows
 pub mod KeyedRows
 pub mod KeyTexts
 pub mod SayingLemmas
+pub mod KeyTests

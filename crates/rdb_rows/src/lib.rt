@@ -5,6 +5,8 @@
 mod decode;
 mod hash;
 mod key_fields;
+#[cfg(test)]
+mod key_tests;
 mod label;
 mod laws;
 mod leaves;

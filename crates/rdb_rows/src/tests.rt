@@ -26,10 +26,10 @@ use std::alloc::Global;
 use std::process::Abort;
 use std::test::*;
 
-const PLACES: usize = 200;
+pub(crate) const PLACES: usize = 200;
 
 /// Checks that the class has so many free cells.
-fn has_free(rt: &impl Abort, cells: &MemoryCells, class: u32, many: usize)
+pub(crate) fn has_free(rt: &impl Abort, cells: &MemoryCells, class: u32, many: usize)
     ensures { HasUntaken [] (memory_image cells.now) (memory_class cells.now) class 0 many }
 {
     let mut last = NONE;
@@ -41,7 +41,7 @@ fn has_free(rt: &impl Abort, cells: &MemoryCells, class: u32, many: usize)
     }
 }
 
-fn label_of(class: u32) -> Label
+pub(crate) fn label_of(class: u32) -> Label
     requires { class < 256 }
     ensures { IsLabel result }
 {
