@@ -1,9 +1,9 @@
 -- A tree index meets the laws of an index. The laws cite this, so no tactic stands here.
-use Rattle.std.specs.Prelude.{◌≡◌, ◌+◌, ◌*◌, ◌%◌, ℕ, zero, suc, List, [], ◌∷◌, Option, Some, Contains, if◌then◌else◌, refl}
+use Rattle.std.specs.Prelude.{◌≡◌, ◌+◌, ◌*◌, ◌%◌, ℕ, zero, suc, List, [], ◌∷◌, ◌++◌, ◌⊎◌, length, Option, Some, Contains, if◌then◌else◌, refl}
 use Rattle.std.specs.List.{flat_map}
 use mathlib.Core.Logic.{inl, inr}
 use mathlib.Core.Path.{sym, ap, subst, ◌∙◌}
-use native.Mathlib.Nat.{add-mul-mod_self_left, not-suc-le-zero}
+use native.Mathlib.Nat.{add-mul-mod_self_left, not-suc-le-zero, zero-lt-suc, suc-le-suc_iff}
 use Rattle.rdb_pages.specs.declared.cell.CellRef.{CellRef}
 use Rattle.rdb_cells.specs.declared.formats.tree.TreeNode.{TreeNode}
 use Rattle.rdb_cells.specs.declared.kind.Kind.TheVariants as kind
@@ -15,8 +15,6 @@ use Rattle.rdb_cells.specs.Links.{IsAmong, AreOnce, SameOn}
 use Rattle.rdb_cells.specs.PlainLaws.{lists_again}
 use Rattle.rdb_cells.specs.TreeFormat.{tree_node_cell}
 use Rattle.rdb_cells.specs.Words.{IsOfKind, HasKind}
-use Rattle.rdb_cells.proofs.LinkLemmas.{among_either, among_front, among_back}
-use Rattle.rdb_cells.proofs.ListedLemmas.{contains_first, contains_later}
 use Rattle.rdb_tree.specs.Nature.{IsTree, tree_nature}
 use Rattle.rdb_tree.specs.Order.{IsBefore, AreAscending}
 use Rattle.rdb_tree.specs.Trees.{Node, BTree, Each, Tree, Empty, Rooted, Stands, Holds, cells, cells_of, TreeStands, root_of, node_with, roots}
@@ -24,6 +22,30 @@ use Rattle.rdb_tree.specs.Trees.{Node, BTree, Each, Tree, Empty, Rooted, Stands,
 -- the cell of a node is one of a tree
 pub node_kind : (node : TreeNode) → IsOfKind (tree_node_cell node) kind.TreeNode
 node_kind node = add-mul-mod_self_left 6 256 (node.count + 256 * (if node.leaf then 1 else 0))
+
+-- numbers that are among two lists
+among_front : (xs ys : List ℕ) (n : ℕ) → IsAmong xs n → IsAmong (xs ++ ys) n
+among_front [] ys n within = absurd within
+among_front (x ∷ xs) ys n (inl same) = inl same
+among_front (x ∷ xs) ys n (inr within) = inr (among_front xs ys n within)
+
+among_back : (xs ys : List ℕ) (n : ℕ) → IsAmong ys n → IsAmong (xs ++ ys) n
+among_back [] ys n within = within
+among_back (x ∷ xs) ys n within = inr (among_back xs ys n within)
+
+among_either : (xs ys : List ℕ) (n : ℕ) → IsAmong (xs ++ ys) n → IsAmong xs n ⊎ IsAmong ys n
+among_either [] ys n within = inr within
+among_either (x ∷ xs) ys n (inl same) = inl (inl same)
+among_either (x ∷ xs) ys n (inr within) = elim (among_either xs ys n within) [
+  | inl front ↦ inl (inr front)
+  | inr back ↦ inr back
+]
+
+contains_first : (r : CellRef) (rs : List CellRef) → Contains (r ∷ rs) r
+contains_first r rs = (0, zero-lt-suc (length rs), refl)
+
+contains_later : (q r : CellRef) (rs : List CellRef) → Contains rs q → Contains (r ∷ rs) q
+contains_later q r rs within = (suc within.0, suc-le-suc_iff.1 within.1, within.2)
 
 -- a tree rests on its cells
 module _ (before after : Image) where

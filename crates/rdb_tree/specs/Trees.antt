@@ -1,5 +1,5 @@
 -- B-trees of versions: by their height, as they stand in cells, and their shape.
-use Rattle.std.specs.Prelude.{◌≡◌, ◌≤◌, ◌+◌, ◌-◌, ◌*◌, ◌^◌, ℕ, zero, suc, List, [], ◌∷◌, ◌++◌, length, map, replicate, Bool, true, false, Some, if◌then◌else◌}
+use Rattle.std.specs.Prelude.{◌≡◌, ◌≤◌, ◌+◌, ◌-◌, ◌*◌, ◌^◌, ℕ, zero, suc, List, [], ◌∷◌, ◌++◌, length, map, take, replicate, Bool, true, false, Some, if◌then◌else◌}
 use Rattle.std.specs.List.{flat_map}
 use Rattle.rdb_pages.specs.declared.cell.CellRef.{CellRef}
 use Rattle.rdb_cells.specs.declared.formats.tree.TreeNode.{TreeNode}
@@ -65,6 +65,17 @@ node_with keys children = record {
   versions = padded most_keys keys;
   children = padded most_children children;
 }
+
+-- the keys and the children that a node says
+abbrev pub keys_in : TreeNode → List CellRef
+keys_in node = take node.count node.versions
+
+abbrev pub children_in : TreeNode → List CellRef
+children_in node = if node.leaf then [] else take (node.count + 1) node.children
+
+-- the most references of a kind in a node that has one key too many
+abbrev pub most_refs : ℕ
+most_refs = 9
 
 -- the node's cell says its keys and its children
 abbrev pub Holds : (h : ℕ) → Image → BTree h → Type 0
