@@ -4,9 +4,9 @@ use Rattle.std.proofs.lemmas.List.Sorted.{IsPermutation-trans, IsPermutation-sym
 use Rattle.std.specs.Prelude.{IsPermutation, Contains}
 use Rattle.rdb_pages.specs.declared.cell.CellRef.{CellRef}
 use Rattle.rdb_cells.specs.Images.{Image}
-use Rattle.rdb_cells.specs.Index.{Nature, Lists, LacksVersion, HasVersion, Puts, Removes, PlansOnlyOwn, ListsAnew, IsListing, IsStanding, HasIndexCells, RestsOnNodes}
+use Rattle.rdb_cells.specs.Index.{LacksVersion, HasVersion, Puts, Removes, PlansOnlyOwn, ListsAnew, IsListing, IsStanding, HasIndexCells, RestsOnNodes}
 use Rattle.rdb_cells.specs.IndexCaller.{Keyed, Listed, StandApart, NeitherLists, CameToSecond}
-use Rattle.rdb_cells.specs.Keys.{Meaning, says, SameVersionCells, RestsOnVersions, IsUnlisted}
+use Rattle.rdb_cells.specs.Keys.{says, SameVersionCells, RestsOnVersions, IsUnlisted}
 use Rattle.rdb_cells.specs.Links.{AreOf}
 use Rattle.rdb_cells.specs.Work.{Work, reading}
 use Rattle.rdb_cells.proofs.IndexLemmas.{other_lists, still_disjoint, disjoint_back, unlisted_again}

@@ -1,5 +1,5 @@
 -- The pairs of a plan that change a cell.
-use Rattle.std.proofs.Common.{◌≡◌, ◌≢◌, ◌||◌, ◌==◌, ◌<◌, ◌≤◌, ◌+◌, ◌↔◌, zero, suc, ℕ, List, [], ◌∷◌, ◌++◌, length, get_or, set, take, drop, reverse, Option, Some, None, Bool, true, false, refl, sym, ap, subst, ◌∙◌, arith, inl, inr, eq-eqb, add-one, drop-cons}
+use Rattle.std.proofs.Common.{◌≡◌, ◌≢◌, ◌||◌, ◌==◌, ◌<◌, ◌≤◌, ◌+◌, ◌↔◌, zero, suc, ℕ, List, [], ◌∷◌, ◌++◌, length, get_or, set, take, drop, reverse, Option, Some, Bool, true, false, refl, sym, ap, subst, ◌∙◌, arith, inl, inr, eq-eqb, add-one, drop-cons}
 use Rattle.std.proofs.lemmas.Bool.{ne_eqb, false≢true}
 use Rattle.std.proofs.lemmas.List.{reverse-append, length-map, length-set, take_more_set, drop-set-lt}
 use Rattle.std.proofs.Math.Seq.{take-suc}

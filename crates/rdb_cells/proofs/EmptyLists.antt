@@ -9,17 +9,17 @@ use Rattle.rdb_pages.specs.declared.cell.CellRef.{CellRef}
 use Rattle.rdb_cells.specs.declared.kind.Kind.TheVariants as kind
 use Rattle.rdb_cells.specs.HeadFormat.{index_head_cell, empty_index_head}
 use Rattle.rdb_cells.specs.Images.{Image, IsFree}
-use Rattle.rdb_cells.specs.IndexCaller.{Listed, keyed, StandApart, NeitherLists}
+use Rattle.rdb_cells.specs.IndexCaller.{Listed, keyed, NeitherLists}
 use Rattle.rdb_cells.specs.Keys.{Version, says, IsUnlisted}
 use Rattle.rdb_cells.specs.Links.{IsAmong}
-use Rattle.rdb_cells.specs.OneKey.{one_meaning, version_held}
+use Rattle.rdb_cells.specs.OneKey.{one_meaning}
 use Rattle.rdb_cells.specs.Overlays.{Laid}
 use Rattle.rdb_cells.specs.PlainLaws.{plain_starts_empty}
 use Rattle.rdb_cells.specs.PlainList.{plain_nature}
 use Rattle.rdb_cells.specs.Records.{Record}
 use Rattle.rdb_cells.specs.Untaken.{IsUntaken}
 use Rattle.rdb_cells.specs.Words.{IsOfKind}
-use Rattle.rdb_cells.specs.Work.{Work, HasLeft}
+use Rattle.rdb_cells.specs.Work.{HasLeft}
 use Rattle.rdb_cells.proofs.KeyLemmas.{held_version}
 
 abbrev pub nothing_listed : Listed

@@ -1,24 +1,22 @@
 -- Indexes beside each other: what a change of one leaves of another.
-use Rattle.std.proofs.Common.{◌≡◌, ◌≢◌, ◌+◌, ◌⊎◌, zero, suc, ℕ, List, [], ◌∷◌, length, slice_get, Option, Some, IsSome, Bool, true, inl, inr, refl, sym, ap, ap₂, subst, ◌∙◌, arith, nat_cmp}
+use Rattle.std.proofs.Common.{◌≡◌, ◌≢◌, ◌≤◌, ◌+◌, ◌-◌, ◌⊎◌, zero, suc, ℕ, List, [], ◌∷◌, length, slice_get, Option, Some, IsSome, true, inl, inr, refl, sym, ap, ap₂, subst, ◌∙◌, arith, nat_cmp}
 use Rattle.std.proofs.lemmas.Bool.{false≢true}
 use Rattle.std.proofs.lemmas.Map.Keys.{sorted_tail}
 use Rattle.std.specs.List.Sorted.{IsStrictlySortedBy}
 use Rattle.std.specs.Option.{option_map_or}
-use Rattle.std.specs.Prelude.{Contains}
 use Rattle.rdb_pages.specs.declared.cell.Cell.{Cell}
 use Rattle.rdb_pages.specs.declared.cell.CellRef.{CellRef}
 use Rattle.rdb_pages.specs.Pages.{zero_cell}
-use Rattle.rdb_cells.specs.declared.pairs.Pair.{Pair}
 use Rattle.rdb_cells.specs.declared.kind.Kind.{Kind}
 use Rattle.rdb_cells.specs.declared.kind.Kind.TheVariants.{Free, Row, Version, Object, HashTable, HashEntry, TreeNode, RtreeNode, PatriciaBranch, PatriciaEntry, ClassHead, IndexHead}
 use Rattle.rdb_cells.specs.Images.{Image}
-use Rattle.rdb_cells.specs.Index.{Nature, Lists, KeepsAccount, IsOwn, IsIndexNode, is_of_index, HasIndexCells, RestsOnNodes}
-use Rattle.rdb_cells.specs.Keys.{Meaning, Sayings, says, SaySame, SameVersionCells, RestsOnVersions, AreTwins, IsUnlisted}
+use Rattle.rdb_cells.specs.Index.{Nature, Lists, KeepsAccount, IsOwn, PlansOnlyOwn, is_of_index, HasIndexCells, RestsOnNodes}
+use Rattle.rdb_cells.specs.Keys.{Meaning, Sayings, says, SaySame, SameVersionCells, RestsOnVersions, IsUnlisted}
 use Rattle.rdb_cells.specs.Links.{IsAmong, AreDisjoint, SameOn}
 use Rattle.rdb_cells.specs.Records.{content, first_of}
-use Rattle.rdb_cells.specs.Untaken.{IsUntaken, HasUntaken}
 use Rattle.rdb_cells.specs.Words.{kind_number, number_of, HasKind}
 use Rattle.rdb_cells.specs.Work.{Work, reading, IsBlank, IsLeft, HasLeft}
+use Rattle.rdb_cells.proofs.WorkLemmas.{left_blank}
 
 -- a zero cell has the kind of a free one
 kind_of_zero : (image : Image) (of : Kind) (n : ℕ) → image n ≡ Some zero_cell → HasKind image of n → number_of of ≡ 0
@@ -87,7 +85,7 @@ module _ (index other : Nature) (keys other_keys : Meaning) (before after : Work
     | inl same ↦ ap₂ (λ (o : Option Cell) (image : Image). first_of o (image n)) same below
     | inr (inl head) ↦ absurd (apart n (inl (sym head)) within)
     | inr (inr (inl node)) ↦ absurd (apart n (inr node) within)
-    | inr (inr (inr blank)) ↦ absurd (blank_apart n blank within)
+    | inr (inr (inr left)) ↦ absurd (blank_apart n (left_blank before n left) within)
   ]
 
   -- the other one lists the same in the same nodes
@@ -99,11 +97,22 @@ module _ (index other : Nature) (keys other_keys : Meaning) (before after : Work
   still_disjoint n (inl head) = apart n (inl head)
   still_disjoint n (inr node) = elim (account.come n node) [
     | inl old ↦ apart n (inr old)
-    | inr blank ↦ blank_apart n blank
+    | inr left ↦ blank_apart n (left_blank before n left)
   ]
 
 pub disjoint_back : (ms ns : List ℕ) → AreDisjoint ms ns → AreDisjoint ns ms
 disjoint_back ms ns apart n within also = apart n also within
+
+-- a node of an index can't be taken
+pub node_not_left : (index : Nature) (keys : Meaning) (w : Work) (listed : List CellRef) (nodes : List ℕ) → HasIndexCells index → Lists index keys (reading w) listed nodes → (n : ℕ) → IsAmong nodes n → ¬ IsLeft w n
+node_not_left index keys w listed nodes cells lists n within left = index_filled index (says keys (reading w)) (reading w) listed nodes cells lists n (left_blank w n left).zero (inr within)
+
+-- what isn't the index's own reads as before
+pub reads_as_before : (index : Nature) (keys : Meaning) (before after : Work) (listed : List CellRef) (nodes : List ℕ) → Lists index keys (reading before) listed nodes → PlansOnlyOwn index keys before after → after.below ≡ before.below → (n : ℕ) → (¬ IsOwn index nodes before n) → reading after n ≡ reading before n
+reads_as_before index keys before after listed nodes lists plans below n foreign = elim (plans listed nodes lists n) [
+  | inl same ↦ ap₂ (λ (o : Option Cell) (image : Image). first_of o (image n)) same below
+  | inr own ↦ absurd (foreign own)
+]
 
 -- who can take more cells can take fewer
 module _ (w : Work) where
@@ -122,3 +131,6 @@ module _ (w : Work) where
       let count = has.count in
       let many : length has.cells ≡ suc (m + n) = omega arith in
       fewer_left m n (m + n) refl (one_less has.cells (m + n) many has.ascending has.untaken)
+
+pub fewer_than : (w : Work) (few many : ℕ) → few ≤ many → HasLeft w many → HasLeft w few
+fewer_than w few many least has = fewer_left w (many - few) few many (omega arith) has

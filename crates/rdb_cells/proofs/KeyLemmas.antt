@@ -1,14 +1,12 @@
 -- What headers say of versions that all have one key.
-use Rattle.std.proofs.Common.{◌≡◌, ℕ, List, Option, Some, None, IsSome, true, refl, sym, ap, ap₂, subst, ◌∙◌, ◌↔◌, IsTrue}
+use Rattle.std.proofs.Common.{◌≡◌, ℕ, List, Option, Some, None, IsSome, refl, sym, ap, ap₂, subst, ◌∙◌}
 use Rattle.std.specs.declared.cmp.Ordering.{Ordering}
 use Rattle.std.specs.declared.cmp.Ordering.TheVariants.{Less, Equal, Greater}
-use Rattle.std.specs.Cmp.{IsTotalOrder}
 use Rattle.std.specs.Option.{ForSome, option_map_or}
 use Rattle.std.specs.Ordering.{ordering_then, ordering_reverse}
 use Rattle.rdb_base.specs.declared.value.Value.{Value}
-use Rattle.rdb_base.specs.declared.value.Rect.{Rect}
 use Rattle.rdb_base.specs.Order.{row_order}
-use Rattle.rdb_base.proofs.OrderLemmas.{row_order_total, row_level}
+use Rattle.rdb_base.proofs.OrderLemmas.{row_order_total}
 use Rattle.rdb_pages.specs.declared.cell.Cell.{Cell}
 use Rattle.rdb_cells.specs.declared.kind.Kind.TheVariants as kind
 use Rattle.rdb_cells.specs.Keys.{Version, version_order, key_order}

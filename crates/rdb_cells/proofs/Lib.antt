@@ -11,11 +11,16 @@ pub mod OverlayLemmas
 pub mod UndoneLemmas
 pub mod MemoryLemmas
 pub mod LinkLemmas
+pub mod ForestLemmas
+pub mod LeafLemmas
+pub mod ChainLemmas
 pub mod IndexLemmas
 pub mod CallerLemmas
 pub mod WorkLemmas
 pub mod ListedLemmas
 pub mod KeyLemmas
+pub mod VersionCellLemmas
+pub mod VersionOrder
 pub mod PlainLemmas
 pub mod PlainChanges
 pub mod EmptyLists

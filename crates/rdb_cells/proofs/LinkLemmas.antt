@@ -1,12 +1,12 @@
 -- Linked structures in cells: what writes leave of them, and what they make of them.
-use Rattle.std.proofs.Common.{◌≡◌, ◌≢◌, ◌<◌, ◌≤◌, ◌⊎◌, ◌++◌, zero, suc, ℕ, List, [], ◌∷◌, length, map, get_or, Option, Some, inl, inr, refl, sym, ap, ap₂, subst, ◌∙◌, arith}
+use Rattle.std.proofs.Common.{◌≡◌, ◌≢◌, ◌<◌, ◌≤◌, ◌⊎◌, ◌++◌, zero, suc, ℕ, List, [], ◌∷◌, length, get_or, Option, Some, inl, inr, refl, sym, ap, ap₂, subst, ◌∙◌, arith}
 use Rattle.std.proofs.Permutation.{which}
 use Rattle.std.proofs.lemmas.List.{append_assoc}
 use Rattle.std.specs.Option.{option_map_or}
 use Rattle.rdb_pages.specs.declared.cell.Cell.{Cell}
 use Rattle.rdb_pages.specs.Pages.{zero_cell}
 use Rattle.rdb_cells.specs.Images.{Image, Writes}
-use Rattle.rdb_cells.specs.Links.{IsAmong, AreOf, AreOnce, AreDisjoint, SameOn, Node, Format, IsNeverZero, IsFunctional, IsHeld, Stand, StandApart, numbers, Placed, elements, start, segment, IsChain, Forest, End, Gap, Tree, roots, grown, AreTrees, Step, PastGap, PastTree, Below, graft, ahead, behind}
+use Rattle.rdb_cells.specs.Links.{IsAmong, AreOnce, AreDisjoint, Node, Format, IsNeverZero, IsFunctional, IsHeld, Stand, StandApart, numbers, Placed, elements, start, segment, Forest, Gap, Tree, roots, grown, Step, PastGap, PastTree, Below, graft, ahead, behind}
 pub use Rattle.rdb_cells.specs.LinkLaws.{still_stand, still_apart, still_chain, still_trees, node_of}
 
 -- Numbers

@@ -1,5 +1,5 @@
 -- Lists of versions: one more, one less, another order.
-use Rattle.std.proofs.Common.{◌≡◌, ◌≢◌, ◌<◌, ◌≤◌, ◌+◌, ◌⊎◌, ◌==◌, zero, suc, ℕ, List, [], ◌∷◌, length, Option, Some, IsSome, Bool, true, false, cond, inl, inr, refl, sym, ap, subst, ◌∙◌, zero-lt-suc, suc-le-suc, arith, eq-eqb}
+use Rattle.std.proofs.Common.{◌≡◌, ◌≢◌, ◌<◌, ◌+◌, ◌⊎◌, ◌==◌, zero, suc, ℕ, List, [], ◌∷◌, IsSome, Bool, cond, inl, inr, refl, sym, ap, subst, ◌∙◌, zero-lt-suc, suc-le-suc, arith, eq-eqb}
 use Rattle.std.proofs.lemmas.Bool.{ne_eqb}
 use Rattle.std.proofs.lemmas.List.Sums.{sum_by-cons}
 use Rattle.std.proofs.lemmas.List.Sorted.{IsPermutation-sym, Contains-permutation, sum_by-IsPermutation}
@@ -7,7 +7,7 @@ use Rattle.std.proofs.Permutation.{which}
 use Rattle.std.specs.List.{Contains}
 use Rattle.std.specs.Prelude.{IsPermutation}
 use Rattle.rdb_pages.specs.declared.cell.CellRef.{CellRef}
-use Rattle.rdb_cells.specs.Keys.{Sayings, Version, AreTwins, IsUnlisted, times_listed, ListsVersions, SaySame}
+use Rattle.rdb_cells.specs.Keys.{Sayings, AreTwins, IsUnlisted, times_listed, ListsVersions}
 
 pub contains_first : (x : CellRef) (xs : List CellRef) → Contains (x ∷ xs) x
 contains_first x xs = (0, zero-lt-suc _, refl)

@@ -1,5 +1,5 @@
 -- Which numbers the cells in plain memory have, and which class each belongs to.
-use Rattle.std.proofs.Common.{◌≡◌, ◌<◌, ◌≤◌, ◌-◌, ◌/◌, ◌⊎◌, ℕ, List, length, Option, None, Some, IsSome, inl, inr, refl, sym, subst, ◌∙◌, arith, rules}
+use Rattle.std.proofs.Common.{◌≡◌, ◌<◌, ◌≤◌, ◌-◌, ◌/◌, ◌⊎◌, ℕ, List, length, Option, None, Some, IsSome, inl, inr, refl, sym, subst, arith, rules}
 use Rattle.std.proofs.Permutation.{which}
 use Rattle.std.proofs.lemmas.Bool.{cases_lt, lt-ltb, le-ltb, ne_eqb, false≢true}
 use Rattle.std.proofs.lemmas.Option.{slice_get_cases}
@@ -7,7 +7,7 @@ use Rattle.std.specs.List.{slice_get}
 use Rattle.rdb_pages.specs.Pages.{page_cells}
 use Rattle.rdb_cells.specs.Images.{IsCell, AreBounded}
 use Rattle.rdb_cells.specs.Memory.{Memory, IsMemory, memory_image, memory_class}
-use Rattle.rdb_cells.specs.References.{first_head, class_of_head, IsReference}
+use Rattle.rdb_cells.specs.References.{first_head, class_of_head}
 
 is_within : {X : Type 0} (xs : List X) (i : ℕ) → IsSome (slice_get xs i) → i < length xs
 is_within xs i there = elim (slice_get_cases xs i).1 [

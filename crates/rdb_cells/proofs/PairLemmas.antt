@@ -1,12 +1,12 @@
 -- What a plan's list of pairs says of each cell.
-use Rattle.std.proofs.Common.{◌≡◌, ◌≢◌, ◌||◌, ◌⊎◌, ◌==◌, ◌<◌, zero, suc, ℕ, List, [], ◌∷◌, ◌++◌, length, get_or, set, map, Option, Some, None, IsSome, IfSome, IfNone, is_some, Bool, true, false, refl, sym, ap, subst, ◌∙◌, arith, cond, inl, inr, eq-eqb, rules}
+use Rattle.std.proofs.Common.{◌≡◌, ◌≢◌, ◌||◌, ◌⊎◌, ◌==◌, ◌<◌, zero, suc, ℕ, List, [], ◌∷◌, ◌++◌, length, get_or, set, Option, Some, None, IsSome, IfSome, IfNone, is_some, Bool, true, false, refl, sym, ap, subst, ◌∙◌, arith, cond, inl, inr, eq-eqb, rules}
 use Rattle.std.proofs.lemmas.Bool.{ne_eqb, eqb-true, false≢true}
 use Rattle.std.proofs.Permutation.{which}
 use Rattle.std.specs.List.{find}
 use Rattle.std.specs.Option.{option_map}
 use Rattle.rdb_pages.specs.declared.cell.Cell.{Cell}
 use Rattle.rdb_cells.specs.declared.pairs.Pair.{Pair}
-use Rattle.rdb_cells.specs.Images.{Image, Writes}
+use Rattle.rdb_cells.specs.Images.{Image, SameImage, Writes}
 use Rattle.rdb_cells.specs.Places.{AreDifferent}
 use Rattle.rdb_cells.specs.Records.{names, numbers_of, content, replaced, with_put, first_of, planned}
 
@@ -190,3 +190,32 @@ with_put_named ps p named = rw named refl
 
 pub with_put_fresh : (ps : List Pair) (p : Pair) → names ps p.at.number ≡ false → with_put ps p ≡ ps ++ p ∷ []
 with_put_fresh ps p unnamed = rw unnamed refl
+
+-- the last of different cells has no other pair
+last_number : (ps : List Pair) (p : Pair) → get_or (numbers_of (ps ++ p ∷ [])) (length ps) 0 ≡ p.at.number
+last_number [] p = refl
+last_number (q ∷ ps) p = last_number ps p
+
+one_longer : (ps : List Pair) (p : Pair) → length (numbers_of (ps ++ p ∷ [])) ≡ suc (length ps)
+one_longer [] p = refl
+one_longer (q ∷ ps) p = ap suc (one_longer ps p)
+
+last_unnamed : (ps : List Pair) (p : Pair) → AreDifferent (numbers_of (ps ++ p ∷ [])) → names ps p.at.number ≡ false
+last_unnamed [] p apart = refl
+last_unnamed (q ∷ ps) p apart =
+    let longer = one_longer ps p in
+    let different : q.at.number ≢ p.at.number = λ same. different-head q.at.number (numbers_of (ps ++ p ∷ [])) (length ps) apart (omega arith) (last_number ps p ∙ sym same) in
+    rw (ne_eqb q.at.number p.at.number different) (last_unnamed ps p (different-tail q.at.number (numbers_of (ps ++ p ∷ [])) apart))
+
+-- once the newest pair is written, the others read as all did
+pub written_next : (ps : List Pair) (p : Pair) (before after : Image) → AreDifferent (numbers_of (ps ++ p ∷ [])) → Writes before after p.at.number p.cell → SameImage (planned ps after) (planned (ps ++ p ∷ []) before)
+written_next ps p before after apart writes n = elim (which n p.at.number) [
+  | inl same ↦
+      let unnamed : names ps n ≡ false = ap (names ps) same ∙ last_unnamed ps p apart in
+      ap (λ (o : Option Cell). first_of o (after n)) (content_unnamed ps n unnamed)
+      ∙ ap after same ∙ writes.here
+      ∙ sym (ap (λ (o : Option Cell). first_of o (before n)) (content-append_same ps p n unnamed (sym same)))
+  | inr other ↦
+      ap (first_of (content ps n)) (writes.elsewhere n other)
+      ∙ sym (ap (λ (o : Option Cell). first_of o (before n)) (content-append_other ps p n other))
+]

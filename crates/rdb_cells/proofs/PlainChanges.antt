@@ -1,56 +1,38 @@
 -- Plain lists: what a put and a remove make of them.
-use Rattle.std.proofs.Common.{◌≡◌, ◌≢◌, ◌<◌, ◌+◌, ◌⊎◌, ◌++◌, zero, suc, ℕ, List, [], ◌∷◌, slice_get, Option, Some, inl, inr, refl, sym, ap, subst, ◌∙◌, arith}
+use Rattle.std.proofs.Common.{◌≡◌, ◌≢◌, ◌<◌, ◌⊎◌, ◌++◌, ℕ, List, [], ◌∷◌, slice_get, Some, inl, inr, refl, sym, ap, subst, ◌∙◌, arith}
 use Rattle.std.proofs.Permutation.{which}
 use Rattle.std.proofs.lemmas.List.Sorted.{IsPermutation-refl, IsPermutation-sym, IsPermutation-cons, IsPermutation-middle, IsPermutation-trans}
-use Rattle.std.specs.List.{Contains}
 use Rattle.std.specs.Prelude.{IsPermutation}
 use Rattle.rdb_pages.specs.declared.cell.Cell.{Cell}
 use Rattle.rdb_pages.specs.declared.cell.CellRef.{CellRef}
 use Rattle.rdb_pages.specs.Pages.{zero_cell}
-use Rattle.rdb_cells.specs.declared.kind.Kind.{Kind}
 use Rattle.rdb_cells.specs.declared.kind.Kind.TheVariants as kind
 use Rattle.rdb_cells.specs.HeadFormat.{index_head_in, rooted_head}
 use Rattle.rdb_cells.specs.Images.{Image, Writes}
-use Rattle.rdb_cells.specs.Index.{Puts, Removes, ListsAnew, KeepsAccount, PlansOnlyOwn, IsOwn}
-use Rattle.rdb_cells.specs.Keys.{Meaning, Sayings, says, SameVersionCells, IsOfVersion, RestsOnVersions, IsUnlisted, ListsVersions}
-use Rattle.rdb_cells.specs.Links.{IsAmong, AreOf, AreOnce, Node, Stand, StandApart, numbers, Placed, elements, start, segment}
+use Rattle.rdb_cells.specs.Index.{Puts, Removes, KeepsAccount, PlansOnlyOwn}
+use Rattle.rdb_cells.specs.Keys.{Meaning, Sayings, says, SameVersionCells, HasNoVersionCell, RestsOnVersions, IsUnlisted, ListsVersions}
+use Rattle.rdb_cells.specs.Links.{IsAmong, Node, StandApart, numbers, Placed, elements, start, segment}
 use Rattle.rdb_cells.specs.PatriciaFormat.{patricia_entry_in}
 use Rattle.rdb_cells.specs.PlainLaws.{lists_again}
-use Rattle.rdb_cells.specs.PlainList.{IsEntry, LeadsTo, AreEntries, IsPlainList, plain_nature, IsEntryAt}
-use Rattle.rdb_cells.specs.Records.{content}
+use Rattle.rdb_cells.specs.PlainList.{IsEntry, AreEntries, IsPlainList, plain_nature, IsEntryAt}
 use Rattle.rdb_cells.specs.References.{IsPageCell}
 use Rattle.rdb_cells.specs.Untaken.{IsNextUntaken}
-use Rattle.rdb_cells.specs.Words.{number_of, IsOfKind, HasKind}
+use Rattle.rdb_cells.specs.Words.{IsOfKind, HasKind}
 use Rattle.rdb_cells.specs.Work.{Work, reading, IsBlank, IsLeft, TakesAtMost, TakesNone}
 use Rattle.rdb_cells.proofs.IndexLemmas.{says_again, unlisted_again}
 use Rattle.rdb_cells.proofs.LinkLemmas.{node_of, taken, given_back, apart_beside, rewritten_chain, same_cells, same_start, elements_append}
 use Rattle.rdb_cells.proofs.ListedLemmas.{lists_more, lists_less, lists_in_order}
-use Rattle.rdb_cells.proofs.PlainLemmas.{entries_never_zero, leads_there, one_kind, one_entries, node_there, entry_version, entry_next}
-use Rattle.rdb_cells.proofs.WorkLemmas.{put_work, take_work, put_reads, put_says, left_blank, put_takes_none, none_then, none_at_most, at_most_then, take_one, taken_spent}
+use Rattle.rdb_cells.proofs.PlainLemmas.{entries_never_zero, leads_there, one_kind, one_entries, entry_version, entry_next}
+use Rattle.rdb_cells.proofs.VersionCellLemmas.{no_version, others_written}
+use Rattle.rdb_cells.proofs.WorkLemmas.{put_work, take_work, put_reads, put_says, left_blank, put_takes_none, none_then, none_at_most, at_most_then, take_one, taken_spent, lowest_take, lowest_none, lowest_then}
 
--- a place without a row or a header
-abbrev NoVersion : Image → ℕ → Type 0
-NoVersion image n = (c : Cell) → image n ≡ Some c → ¬ IsOfVersion c
-
-no_version : (image : Image) (of : Kind) (n : ℕ) → HasKind image of n → number_of of ≢ number_of kind.Row → number_of of ≢ number_of kind.Version → NoVersion image n
-no_version image of n has no_row no_header c is of_version = elim of_version [
-  | inl row ↦ no_row (one_kind image of kind.Row n has (c, is, row))
-  | inr header ↦ no_header (one_kind image of kind.Version n has (c, is, header))
-]
-
-same_versions : (a b : Image) → ((n : ℕ) → (b n ≡ a n) ⊎ (NoVersion a n × NoVersion b n)) → SameVersionCells a b
-same_versions a b same n c of_version = elim (same n) [
-  | inl stays ↦ (λ e. stays ∙ e, λ e. sym stays ∙ e)
-  | inr neither ↦ (λ e. absurd (neither.0 c e of_version), λ e. absurd (neither.1 c e of_version))
-]
-
-free_none : (image : Image) (n : ℕ) → HasKind image kind.Free n → NoVersion image n
+free_none : (image : Image) (n : ℕ) → HasKind image kind.Free n → HasNoVersionCell image n
 free_none image n has = no_version image kind.Free n has (λ e. absurd (omega arith)) (λ e. absurd (omega arith))
 
-head_none : (image : Image) (n : ℕ) → HasKind image kind.IndexHead n → NoVersion image n
+head_none : (image : Image) (n : ℕ) → HasKind image kind.IndexHead n → HasNoVersionCell image n
 head_none image n has = no_version image kind.IndexHead n has (λ e. absurd (omega arith)) (λ e. absurd (omega arith))
 
-entry_none : (image : Image) (n : ℕ) → HasKind image kind.PatriciaEntry n → NoVersion image n
+entry_none : (image : Image) (n : ℕ) → HasKind image kind.PatriciaEntry n → HasNoVersionCell image n
 entry_none image n has = no_version image kind.PatriciaEntry n has (λ e. absurd (omega arith)) (λ e. absurd (omega arith))
 
 zero_kind : (image : Image) (n : ℕ) → image n ≡ Some zero_cell → HasKind image kind.Free n
@@ -144,7 +126,7 @@ module _ (class : ℕ) (head place first version : CellRef) (keys : Meaning) (w 
     elsewhere n no_place no_head = wrote_2.elsewhere n no_head ∙ wrote_1.elsewhere n no_place
 
     pub put_versions : SameVersionCells (reading w) (reading put_2)
-    put_versions = same_versions (reading w) (reading put_2) (λ n. elim (which n head.number) [
+    put_versions = others_written (reading w) (reading put_2) (λ n. elim (which n head.number) [
       | inl same ↦ inr (head_none (reading w) n (subst (HasKind (reading w) kind.IndexHead) (sym same) head_kind), head_none (reading put_2) n (top, ap (reading put_2) same ∙ wrote_2.here, top_kind))
       | inr no_head ↦ elim (which n place.number) [
         | inl same ↦ inr (free_none (reading w) n (zero_kind (reading w) n (ap (reading w) same ∙ blank.zero)), entry_none (reading put_2) n (cell, wrote_2.elsewhere n no_head ∙ ap (reading put_1) same ∙ wrote_1.here, cell_kind))
@@ -175,29 +157,38 @@ module _ (class : ℕ) (head place first version : CellRef) (keys : Meaning) (w 
       versions = lists_now unlisted;
     }
 
+    -- after the taking nothing that can be taken is planned
+    put_rest : TakesNone (take_work w place) put_2
+    put_rest =
+        let spent : ¬ IsLeft put_1 head.number = λ left. not_free (left_blank put_1 head.number left).zero in
+        none_then (take_work w place) put_1 put_2 (put_takes_none (take_work w place) place cell (taken_spent w place lowest)) (put_takes_none put_1 head top spent)
+      where
+        not_free : reading put_1 head.number ≡ Some zero_cell → ⊥
+        not_free zero_there = head_not_free (reading w) head.number head.number head_kind (sym (wrote_1.elsewhere head.number (λ same. not_head (sym same))) ∙ zero_there) refl
+
+    old_spent : (n : ℕ) → IsAmong nodes n → ¬ IsLeft w n
+    old_spent n within left =
+        let node = plain_entry head.number (says keys (reading w)) (reading w) listed nodes list n (subst (λ (ns : List ℕ). IsAmong ns n) list.nodes_are within) in
+        entry_not_free (reading w) n n node (left_blank w n left).zero refl
+
+    pub put_takes : TakesAtMost 1 w put_2
+    put_takes = at_most_then 1 0 w (take_work w place) put_2 (take_one w place lowest) (none_at_most (take_work w place) put_2 put_rest)
+
     account_now : KeepsAccount w put_2 nodes (place.number ∷ nodes)
     account_now = record {
       come = λ n within. elim within [
-        | inl same ↦ inr (subst (IsBlank w) same blank)
+        | inl same ↦ inr (subst (IsLeft w) same lowest.untaken)
         | inr old ↦ inl old
       ];
       gone = λ n within. inl (inr within);
+      takes =
+          lowest_then (place.number ∷ []) nodes w (take_work w place) put_2 (lowest_take w place lowest)
+          (lowest_none (take_work w place) put_2 nodes put_rest (λ n within left. old_spent n within ((take_one w place lowest).no_more n left)));
       filled = λ n free. elim (which place.number n) [
         | inl same ↦ inl (inl same)
         | inr other ↦ inr (elsewhere n (λ same. other (sym same)) (head_not_free (reading w) head.number n head_kind free.zero))
       ];
     }
-
-    pub put_takes : TakesAtMost 1 w put_2
-    put_takes =
-        let spent : ¬ IsLeft put_1 head.number = λ left. not_free (left_blank put_1 head.number left).zero in
-        at_most_then 1 0 w (take_work w place) put_2 (take_one w place lowest)
-        (none_at_most (take_work w place) put_2 (none_then (take_work w place) put_1 put_2
-        (put_takes_none (take_work w place) place cell (taken_spent w place lowest))
-        (put_takes_none put_1 head top spent)))
-      where
-        not_free : reading put_1 head.number ≡ Some zero_cell → ⊥
-        not_free zero_there = head_not_free (reading w) head.number head.number head_kind (sym (wrote_1.elsewhere head.number (λ same. not_head (sym same))) ∙ zero_there) refl
 
   pub plain_puts : Puts (plain_nature class head.number) keys w put_2 version
   plain_puts listed nodes list unlisted = (
@@ -209,7 +200,7 @@ module _ (class : ℕ) (head place first version : CellRef) (keys : Meaning) (w 
   put_own listed nodes list n = elim (put_says put_1 head top n) [
     | inr at_head ↦ inr (inl at_head)
     | inl same ↦ elim (put_says (take_work w place) place cell n) [
-      | inr at_place ↦ inr (inr (inr (subst (IsBlank w) (sym at_place) blank)))
+      | inr at_place ↦ inr (inr (inr (subst (IsLeft w) (sym at_place) lowest.untaken)))
       | inl before ↦ inl (same ∙ before)
     ]
   ]
@@ -346,7 +337,7 @@ module _ (class : ℕ) (head place first version : CellRef) (keys : Meaning) (w 
     first_zero = wrote_c.elsewhere first.number first_not_head ∙ wrote_b.here
 
     pub remove_versions : SameVersionCells (reading w) (reading gone_3)
-    remove_versions = same_versions (reading w) (reading gone_3) (λ n. elim (which n head.number) [
+    remove_versions = others_written (reading w) (reading gone_3) (λ n. elim (which n head.number) [
       | inl same ↦ inr (head_none (reading w) n (subst (HasKind (reading w) kind.IndexHead) (sym same) top_kind_was), head_none (reading gone_3) n (top, ap (reading gone_3) same ∙ wrote_c.here, top_kind))
       | inr no_head ↦ elim (which n first.number) [
         | inl same ↦ inr (entry_none (reading w) n (subst (HasKind (reading w) kind.PatriciaEntry) (sym same) first_kind), free_none (reading gone_3) n (zero_kind (reading gone_3) n (ap (reading gone_3) same ∙ first_zero)))
@@ -380,19 +371,6 @@ module _ (class : ℕ) (head place first version : CellRef) (keys : Meaning) (w 
       versions = rest_lists;
     }
 
-    rest_account : KeepsAccount w gone_3 nodes (numbers (segment left.rest 0))
-    rest_account = record {
-      come = λ n within. inl (subst (λ (ns : List ℕ). IsAmong ns n) (sym nodes_were) (inr within));
-      gone = λ n within. elim (subst (λ (ns : List ℕ). IsAmong ns n) nodes_were within) [
-        | inl same ↦ inr (ap (reading gone_3) (sym same) ∙ first_zero)
-        | inr later ↦ inl later
-      ];
-      filled = λ n free. inr (otherwhere n
-          (entry_not_free (reading w) place.number n place_kind free.zero)
-          (entry_not_free (reading w) first.number n first_kind free.zero)
-          (head_not_free (reading w) head.number n top_kind_was free.zero));
-    }
-
     pub remove_takes_none : TakesNone w gone_3
     remove_takes_none =
         let place_spent : ¬ IsLeft w place.number = λ left_over. entry_not_free (reading w) place.number place.number place_kind (left_blank w place.number left_over).zero refl in
@@ -404,6 +382,22 @@ module _ (class : ℕ) (head place first version : CellRef) (keys : Meaning) (w 
         first_kind_1 : (first.number ≡ place.number) ⊎ (first.number ≢ place.number) → HasKind (reading gone_1) kind.PatriciaEntry first.number
         first_kind_1 (inl same) = (moved, ap (reading gone_1) same ∙ wrote_a.here, moved_kind)
         first_kind_1 (inr apart) = (first_kind.0, wrote_a.elsewhere first.number apart ∙ first_kind.1, first_kind.2)
+
+    rest_account : KeepsAccount w gone_3 nodes (numbers (segment left.rest 0))
+    rest_account = record {
+      come = λ n within. inl (subst (λ (ns : List ℕ). IsAmong ns n) (sym nodes_were) (inr within));
+      gone = λ n within. elim (subst (λ (ns : List ℕ). IsAmong ns n) nodes_were within) [
+        | inl same ↦ inr (ap (reading gone_3) (sym same) ∙ first_zero)
+        | inr later ↦ inl later
+      ];
+      takes =
+          lowest_none w gone_3 (numbers (segment left.rest 0)) remove_takes_none
+          (λ n within left_over. entry_not_free (reading w) n n (entry_at n (inr within)) (left_blank w n left_over).zero refl);
+      filled = λ n free. inr (otherwhere n
+          (entry_not_free (reading w) place.number n place_kind free.zero)
+          (entry_not_free (reading w) first.number n first_kind free.zero)
+          (head_not_free (reading w) head.number n top_kind_was free.zero));
+    }
 
   pub plain_removes : Removes (plain_nature class head.number) keys w gone_3 version
   plain_removes listed nodes list within = (

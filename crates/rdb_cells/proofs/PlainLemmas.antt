@@ -1,28 +1,23 @@
 -- Plain lists: walks through them, and what a put and a remove make of them.
-use Rattle.std.proofs.Common.{◌≡◌, ◌≢◌, ◌<◌, ◌≤◌, ◌+◌, ◌^◌, ◌⊎◌, ◌++◌, zero, suc, ℕ, List, [], ◌∷◌, length, length-append, get_or, slice_get, Option, Some, IsSome, inl, inr, refl, sym, ap, ap₂, subst, ◌∙◌, arith, rules}
-use Rattle.std.proofs.Permutation.{which}
+use Rattle.std.proofs.Common.{◌≡◌, ◌≢◌, ◌<◌, ◌≤◌, ◌+◌, ◌^◌, ◌++◌, suc, ℕ, List, [], ◌∷◌, length, length-append, get_or, slice_get, Option, Some, IsSome, inl, inr, refl, sym, ap, ap₂, subst, ◌∙◌, arith, rules}
 use Rattle.std.proofs.lemmas.List.{append_assoc, append-nil}
-use Rattle.std.proofs.lemmas.List.Sorted.{IsPermutation-refl, IsPermutation-sym, IsPermutation-cons, IsPermutation-middle, IsPermutation-trans}
+use Rattle.std.proofs.lemmas.List.Sorted.{IsPermutation-refl}
 use Rattle.std.specs.List.{Contains}
 use Rattle.std.specs.Option.{option_map_or}
 use Rattle.std.specs.Prelude.{IsPermutation}
 use Rattle.rdb_pages.specs.declared.cell.Cell.{Cell}
 use Rattle.rdb_pages.specs.declared.cell.CellRef.{CellRef}
-use Rattle.rdb_pages.specs.Pages.{zero_cell}
-use Rattle.rdb_cells.specs.declared.formats.heads.IndexHead.{IndexHead as Head}
-use Rattle.rdb_cells.specs.declared.formats.patricia.PatriciaEntry.{PatriciaEntry as Entry}
 use Rattle.rdb_cells.specs.declared.kind.Kind.{Kind}
 use Rattle.rdb_cells.specs.declared.kind.Kind.TheVariants as kind
-use Rattle.rdb_cells.specs.HeadFormat.{index_head_in, rooted_head}
-use Rattle.rdb_cells.specs.Images.{Image, IsCell, Writes}
-use Rattle.rdb_cells.specs.Index.{ListsAnew, IsListing, IsStanding}
-use Rattle.rdb_cells.specs.Keys.{Sayings, ListsVersions}
-use Rattle.rdb_cells.specs.Links.{IsAmong, AreOnce, Node, IsNeverZero, IsFunctional, IsHeld, Stand, StandApart, numbers, Placed, elements, start, segment, IsChain}
+use Rattle.rdb_cells.specs.HeadFormat.{index_head_in}
+use Rattle.rdb_cells.specs.Images.{Image, IsCell}
+use Rattle.rdb_cells.specs.Index.{IsListing}
+use Rattle.rdb_cells.specs.Links.{IsAmong, Node, IsNeverZero, IsFunctional, IsHeld, Stand, numbers, Placed, elements, start, segment}
 use Rattle.rdb_cells.specs.PatriciaFormat.{patricia_entry_in}
-use Rattle.rdb_cells.specs.PlainList.{IsEntry, LeadsTo, AreEntries, IsPlainList, plain_nature, HasEntry, IsEntryAt}
+use Rattle.rdb_cells.specs.PlainList.{IsEntry, LeadsTo, AreEntries, plain_nature, HasEntry, IsEntryAt}
 use Rattle.rdb_cells.specs.References.{IsPageCell, last_page_cell}
 use Rattle.rdb_cells.specs.Words.{kind_number, number_of, IsOfKind, HasKind}
-use Rattle.rdb_cells.proofs.LinkLemmas.{few_below, node_of, one_chain, empty_chain, length_segment, elements_append, stand_parts, segment_append}
+use Rattle.rdb_cells.proofs.LinkLemmas.{few_below, one_chain, empty_chain, length_segment, elements_append, stand_parts, segment_append}
 use Rattle.rdb_cells.proofs.ListedLemmas.{contains_either}
 
 -- What a cell says is one thing.

@@ -193,3 +193,10 @@ settled_by_one older newer own image n none_older none_newer =
     settled-append newer (own ∷ older) image n
     ∙ settled-other newer (settled (own ∷ older) image) n none_newer
     ∙ taken_back-same own (settled older image) image n (settled-other older image n none_older)
+
+-- a write of a cell that no record names is that write of the settled image
+pub settled_write : (rs : List (List Pair)) (before after : Image) (n : ℕ) (cell : Cell) → NoneNames rs n → Writes before after n cell → Writes (settled rs before) (settled rs after) n cell
+settled_write rs before after n cell none writes = record {
+  here = settled-other rs after n none ∙ writes.here;
+  elsewhere = λ other apart. settled-same rs after before other (writes.elsewhere other apart);
+}

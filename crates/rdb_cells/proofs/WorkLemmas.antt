@@ -1,5 +1,5 @@
 -- Work on a plan: what a put and a take leave of the cells that can be taken, and of what the plan says.
-use Rattle.std.proofs.Common.{◌≡◌, ◌≢◌, ◌<◌, ◌≤◌, ◌+◌, ◌⊎◌, ◌++◌, zero, suc, ℕ, List, [], ◌∷◌, length, length-append, cond, slice_get, slice_index, Option, Some, None, is_some, Bool, true, false, inl, inr, refl, sym, ap, subst, ◌∙◌, arith, rules, nat_cmp}
+use Rattle.std.proofs.Common.{◌≡◌, ◌≢◌, ◌<◌, ◌≤◌, ◌+◌, ◌↔◌, ◌⊎◌, ◌++◌, zero, suc, ℕ, List, [], ◌∷◌, length, length-append, cond, slice_get, slice_index, Option, Some, None, is_some, Bool, true, false, inl, inr, refl, sym, ap, subst, ◌∙◌, arith, rules, nat_cmp}
 use Rattle.std.proofs.lemmas.Bool.{cases_lt, false≢true}
 use Rattle.std.proofs.lemmas.List.{length-map}
 use Rattle.std.proofs.lemmas.Map.Keys.{sorted_tail, below_from_sorted}
@@ -7,14 +7,15 @@ use Rattle.std.proofs.Permutation.{which}
 use Rattle.std.specs.List.Sorted.{IsStrictlySortedBy}
 use Rattle.rdb_pages.specs.declared.cell.Cell.{Cell}
 use Rattle.rdb_pages.specs.declared.cell.CellRef.{CellRef}
-use Rattle.rdb_pages.specs.Pages.{zero_cell}
 use Rattle.rdb_cells.specs.declared.pairs.Pair.{Pair}
 use Rattle.rdb_cells.specs.declared.cells.Cells.{Ghosts}
 use Rattle.rdb_cells.specs.Images.{Writes}
+use Rattle.rdb_cells.specs.Links.{IsAmong}
 use Rattle.rdb_cells.specs.Overlays.{Laid}
 use Rattle.rdb_cells.specs.Records.{names, content, with_content, replaced, first_of, with_put}
-use Rattle.rdb_cells.specs.Untaken.{IsUntaken, IsNextUntaken, HasUntaken}
-use Rattle.rdb_cells.specs.Work.{Work, work, reading, IsBlank, IsLeft, HasLeft, TakesAtMost, TakesNone}
+use Rattle.rdb_cells.specs.Untaken.{IsNextUntaken}
+use Rattle.rdb_cells.specs.Work.{Work, work, reading, IsBlank, IsLeft, HasLeft, TakesAtMost, TakesNone, TakesLowest}
+use Rattle.rdb_cells.proofs.LinkLemmas.{among_or_not, among_either, among_front, among_back}
 use Rattle.rdb_cells.proofs.PairLemmas.{put_writes, content_unnamed, content_named, named_when_content}
 
 first_none : (o : Option Cell) → first_of o None ≡ o
@@ -154,6 +155,58 @@ module _ (w : Work) (at : CellRef) (lowest : IsNextUntaken w.pairs w.below w.cla
   -- what was taken can't be taken again
   pub taken_spent : ¬ IsLeft (take_work w at) at.number
   taken_spent left = let above = left.above in absurd (omega arith)
+
+  -- the lowest was taken, and no other
+  pub lowest_take : TakesLowest w (take_work w at) (at.number ∷ [])
+  lowest_take = record {
+    left = λ n. (
+      λ left. (take_one.no_more n left, λ within. elim within [ inl same ↦ taken_spent (subst (λ (k : ℕ). IsLeft (take_work w at) k) (sym same) left) | inr none ↦ none ]),
+      λ both. elim (which at.number n) [
+        | inl same ↦ absurd (both.1 (inl same))
+        | inr apart ↦ elim (cases_lt n at.number) [
+          | inl sooner ↦ absurd (lowest.lowest n sooner both.0)
+          | inr later ↦ above_left n both.0 (omega arith)
+        ]
+      ],
+    );
+    above = λ m n within left after. elim within [ inl same ↦ subst (λ (k : ℕ). k < n) same after.above | inr none ↦ absurd none ];
+  }
+
+-- nothing was taken, and none of these could be
+pub lowest_none : (w0 w1 : Work) (cells : List ℕ) → TakesNone w0 w1 → ((n : ℕ) → IsAmong cells n → ¬ IsLeft w0 n) → TakesLowest w0 w1 cells
+lowest_none w0 w1 cells none old = record {
+  left = λ n. (λ left. ((none n).0 left, λ within. old n within ((none n).0 left)), λ both. (none n).1 both.0);
+  above = λ m n within left after. absurd (old m within left);
+}
+
+-- one taking after another
+pub lowest_then : (xs ys : List ℕ) (w0 w1 w2 : Work) → TakesLowest w0 w1 xs → TakesLowest w1 w2 ys → TakesLowest w0 w2 (xs ++ ys)
+lowest_then xs ys w0 w1 w2 first second = record {
+  left = λ n. (
+    λ left.
+        let middle = (second.left n).0 left in
+        let early = (first.left n).0 middle.0 in
+        (early.0, λ within. elim (among_either xs ys n within) [ inl front ↦ early.1 front | inr back ↦ middle.1 back ]),
+    λ both. (second.left n).1 ((first.left n).1 (both.0, λ front. both.1 (among_front xs ys n front)), λ back. both.1 (among_back xs ys n back)),
+  );
+  above = λ m n within left after. elim (among_or_not xs m) [
+    | inl front ↦ first.above m n front left ((second.left n).0 after).0
+    | inr without ↦ elim (among_either xs ys m within) [
+      | inl front ↦ absurd (without front)
+      | inr back ↦ second.above m n back ((first.left m).1 (left, without)) after
+    ]
+  ];
+}
+
+-- the same of other cells, where those that could be taken are the same
+pub lowest_of : (w0 w1 : Work) (xs ys : List ℕ) → ((n : ℕ) → IsLeft w0 n → IsAmong xs n ↔ IsAmong ys n) → TakesLowest w0 w1 xs → TakesLowest w0 w1 ys
+lowest_of w0 w1 xs ys same takes = record {
+  left = λ n. (
+    λ left. let was = (takes.left n).0 left in (was.0, λ within. was.1 ((same n was.0).1 within)),
+    λ both. (takes.left n).1 (both.0, λ within. both.1 ((same n both.0).0 within)),
+  );
+  above = λ m n within left after. takes.above m n ((same m left).1 within) left after;
+}
 
 -- who can take some cells can take one
 pub one_left : (w : Work) → HasLeft w 1 → (n : ℕ) × IsLeft w n

@@ -1,5 +1,5 @@
 -- What an index owes.
-use Rattle.std.specs.Prelude.{◌≡◌, ◌⊎◌, ℕ, List, [], ◌∷◌, Some, Bool, true, false, Contains, IsPermutation}
+use Rattle.std.specs.Prelude.{◌≡◌, ◌≤◌, ◌*◌, ◌⊎◌, ℕ, List, [], ◌∷◌, length, Some, Bool, true, false, Contains, IsPermutation}
 use Rattle.rdb_pages.specs.declared.cell.CellRef.{CellRef}
 use Rattle.rdb_pages.specs.Pages.{zero_cell}
 use Rattle.rdb_cells.specs.declared.kind.Kind.{Kind}
@@ -10,7 +10,7 @@ use Rattle.rdb_cells.specs.Keys.{Meaning, Sayings, says, SaySame, IsUnlisted, Li
 use Rattle.rdb_cells.specs.Links.{IsAmong, AreOf, AreOnce, SameOn}
 use Rattle.rdb_cells.specs.Records.{content}
 use Rattle.rdb_cells.specs.Words.{HasKind}
-use Rattle.rdb_cells.specs.Work.{Work, reading, IsBlank}
+use Rattle.rdb_cells.specs.Work.{Work, reading, IsBlank, IsLeft, TakesLowest}
 
 -- the kinds of an index's nodes
 abbrev pub is_of_index : Kind → Bool
@@ -56,9 +56,11 @@ pub record HasVersion (index : Nature) (keys : Meaning) (image : Image) (version
   pub lists : Lists index keys image listed nodes
   pub within : Contains listed version
 
--- each node that came was free, each that went reads as zero, and a free cell is a node now or reads as before
+-- each node that came could be taken, and those were taken, the lowest first; each that went reads as zero; and a free cell
+-- is a node now or reads as before
 pub record KeepsAccount (before after : Work) (nodes now_nodes : List ℕ) : Type 0 where
-  pub come : (n : ℕ) → IsAmong now_nodes n → IsAmong nodes n ⊎ IsBlank before n
+  pub come : (n : ℕ) → IsAmong now_nodes n → IsAmong nodes n ⊎ IsLeft before n
+  pub takes : TakesLowest before after now_nodes
   pub gone : (n : ℕ) → IsAmong nodes n → IsAmong now_nodes n ⊎ (reading after n ≡ Some zero_cell)
   pub filled : (n : ℕ) → IsBlank before n → IsAmong now_nodes n ⊎ (reading after n ≡ reading before n)
 
@@ -81,9 +83,9 @@ Removes index keys before after version = WhateverListed index keys (reading bef
     Contains listed version →
     (now : ListsAnew index keys before after nodes) × IsPermutation (version ∷ now.listed) listed × AreOf nodes now.now_nodes)
 
--- a cell of the index: its head, a node, or a free cell of the class
+-- a cell of the index: its head, a node, or a free cell of the class that can be taken
 abbrev pub IsOwn : Nature → List ℕ → Work → ℕ → Type 0
-IsOwn index nodes w n = (n ≡ index.head) ⊎ IsAmong nodes n ⊎ IsBlank w n
+IsOwn index nodes w n = (n ≡ index.head) ⊎ IsAmong nodes n ⊎ IsLeft w n
 
 -- of every cell that isn't one of the index, the plan says what it said before, if anything
 abbrev pub PlansOnlyOwn : Nature → Meaning → Work → Work → Type 0
@@ -128,3 +130,7 @@ HasIndexCells index = Wherever index (λ said image listed nodes. AreIndexCells 
 abbrev pub RestsOnNodes : Nature → Type 0
 RestsOnNodes index = Wherever index (λ said image listed nodes. (again : Sayings) (after : Image) →
     SaySame said again listed → SameOn (index.head ∷ nodes) image after → index.Stands again after listed nodes)
+
+-- for each listed version the index has at most two nodes
+abbrev pub HasFewNodes : Nature → Type 0
+HasFewNodes index = Wherever index (λ said image listed nodes. length nodes ≤ 2 * length listed)

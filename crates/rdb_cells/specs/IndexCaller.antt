@@ -1,5 +1,5 @@
 -- Two indexes of one class beside each other.
-use Rattle.std.specs.Prelude.{◌≡◌, ℕ, List, ◌∷◌, IsPermutation}
+use Rattle.std.specs.Prelude.{ℕ, List, ◌∷◌, IsPermutation}
 use Rattle.rdb_pages.specs.declared.cell.CellRef.{CellRef}
 use Rattle.rdb_cells.specs.Images.{Image}
 use Rattle.rdb_cells.specs.Index.{Nature, Lists}

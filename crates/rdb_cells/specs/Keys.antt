@@ -55,6 +55,10 @@ IsOfVersion cell = IsOfKind cell kind.Row ⊎ IsOfKind cell kind.Version
 abbrev pub SameVersionCells : Image → Image → Type 0
 SameVersionCells a b = (n : ℕ) (cell : Cell) → IsOfVersion cell → (a n ≡ Some cell) ↔ (b n ≡ Some cell)
 
+-- no cell of a row or of a header stands there
+abbrev pub HasNoVersionCell : Image → ℕ → Type 0
+HasNoVersionCell image n = (cell : Cell) → image n ≡ Some cell → ¬ IsOfVersion cell
+
 -- what the keys of an index say of an image: the version of each number, if it is that of a version with a key, and the hash
 -- of each key
 pub record Sayings : Type 0 where

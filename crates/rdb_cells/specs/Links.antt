@@ -1,5 +1,5 @@
 -- Linked structures in cells: chains and trees, as lists of nodes that stand in an image.
-use Rattle.std.specs.Prelude.{◌≡◌, ◌<◌, ◌⊎◌, ◌++◌, ℕ, List, [], ◌∷◌, map, Some}
+use Rattle.std.specs.Prelude.{◌≡◌, ◌<◌, ◌⊎◌, ◌++◌, ℕ, suc, List, [], ◌∷◌, map, max, Some}
 use Rattle.rdb_pages.specs.declared.cell.Cell.{Cell}
 use Rattle.rdb_pages.specs.Pages.{zero_cell}
 use Rattle.rdb_cells.specs.Images.{Image}
@@ -138,3 +138,20 @@ behind [] = []
 behind (PastGap ∷ steps) = behind steps
 behind (PastTree n element below ∷ steps) = behind steps
 behind (Below n element others ∷ steps) = grown others ++ behind steps
+
+-- the cells of the nodes around trees with these roots
+abbrev pub around : {A : Type 0} → List (Step A) → List ℕ → List ℕ
+around steps rs = numbers (ahead steps rs) ++ numbers (behind steps)
+
+-- how many nodes the longest way down has
+abbrev pub depth : {A : Type 0} → Forest A → ℕ
+depth End = 0
+depth (Gap others) = depth others
+depth (Tree n element below others) = max (suc (depth below)) (depth others)
+
+-- the steps stay beside the trees: they go below no node
+abbrev pub StaysBeside : {A : Type 0} → List (Step A) → Type 0
+StaysBeside [] = Unit {0}
+StaysBeside (PastGap ∷ steps) = StaysBeside steps
+StaysBeside (PastTree n element below ∷ steps) = StaysBeside steps
+StaysBeside (Below n element others ∷ steps) = ⊥

@@ -1,17 +1,16 @@
 -- A plain list meets the laws of an index.
-use Rattle.std.specs.Prelude.{◌≡◌, ℕ, List, [], ◌∷◌, Option, IsSome, refl}
+use Rattle.std.specs.Prelude.{◌≡◌, ◌≤◌, ◌*◌, ℕ, suc, List, [], ◌∷◌, length, Option, IsSome, refl}
 use mathlib.Core.Logic.{inl, inr}
 use mathlib.Core.Path.{sym, ap, subst, ◌∙◌}
-use native.Mathlib.Nat.{not-suc-le-zero}
+use native.Mathlib.Nat.{not-suc-le-zero, le_intro, two-mul}
 use Rattle.rdb_pages.specs.declared.cell.CellRef.{CellRef}
 use Rattle.rdb_cells.specs.declared.kind.Kind.TheVariants as kind
 use Rattle.rdb_cells.specs.HeadFormat.{index_head_cell, empty_index_head}
-use Rattle.rdb_cells.specs.Images.{Image}
-use Rattle.rdb_cells.specs.Index.{StartsEmpty, ListsOnce, HasIndexCells, RestsOnNodes}
+use Rattle.rdb_cells.specs.Index.{StartsEmpty, ListsOnce, HasIndexCells, HasFewNodes, RestsOnNodes}
 use Rattle.rdb_cells.specs.Keys.{Sayings, Version, SaySame, ListsVersions}
-use Rattle.rdb_cells.specs.Links.{IsAmong, AreOnce, SameOn, segment, numbers}
+use Rattle.rdb_cells.specs.Links.{IsAmong, AreOnce, SameOn, Placed, elements, segment, numbers}
 use Rattle.rdb_cells.specs.LinkLaws.{still_chain, node_of}
-use Rattle.rdb_cells.specs.PlainList.{IsEntry, IsPlainList, plain_nature}
+use Rattle.rdb_cells.specs.PlainList.{IsEntry, plain_nature}
 use Rattle.rdb_cells.specs.Words.{HasKind, no_ref}
 
 -- keys that say the same of versions say the same of their lists
@@ -28,6 +27,18 @@ lists_again said again listed same lists = record {
     serials = twins.serials;
   });
 }
+
+-- a chain has a cell for each element
+each_a_cell : (chain : List (Placed CellRef)) (end : ℕ) → length (numbers (segment chain end)) ≡ length (elements chain)
+each_a_cell [] end = refl
+each_a_cell (p ∷ ps) end = ap suc (each_a_cell ps end)
+
+one_each : (chain : List (Placed CellRef)) (listed : List CellRef) (nodes : List ℕ) → listed ≡ elements chain → nodes ≡ numbers (segment chain 0) → length nodes ≡ length listed
+one_each chain listed nodes are in_cells =
+    ap (λ (ns : List ℕ). length ns) in_cells ∙ each_a_cell chain 0 ∙ sym (ap (λ (rs : List CellRef). length rs) are)
+
+once_in_twice : (n : ℕ) → n ≤ 2 * n
+once_in_twice n = le_intro n n (sym (two-mul n))
 
 module _ (class head : ℕ) where
   pub plain_starts_empty : StartsEmpty (plain_nature class head)
@@ -56,6 +67,10 @@ module _ (class head : ℕ) where
         (kind.PatriciaEntry, refl, has);
     once = subst AreOnce (sym list.nodes_are) list.entries.chained.nodes.once;
   }
+
+  pub plain_has_few_nodes : HasFewNodes (plain_nature class head)
+  plain_has_few_nodes said image listed nodes list =
+      subst (λ (many : ℕ). many ≤ 2 * length listed) (sym (one_each list.chain listed nodes list.listed_is list.nodes_are)) (once_in_twice (length listed))
 
   pub plain_rests_on_nodes : RestsOnNodes (plain_nature class head)
   plain_rests_on_nodes said image listed nodes list again after says same =

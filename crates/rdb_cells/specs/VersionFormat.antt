@@ -3,6 +3,7 @@ use Rattle.std.specs.Prelude.{◌<◌, ℕ, ◌+◌, ◌*◌, ◌/◌, ◌%◌, 
 use Rattle.rdb_base.specs.declared.identity.Stamp.{Stamp}
 use Rattle.rdb_base.specs.declared.identity.Stamp.TheVariants.{By, Done}
 use Rattle.rdb_pages.specs.declared.cell.Cell.{Cell}
+use Rattle.rdb_pages.specs.declared.cell.CellRef.{CellRef}
 use Rattle.rdb_cells.specs.declared.kind.Kind.TheVariants as kind
 use Rattle.rdb_cells.specs.declared.formats.version.VersionHeader.{VersionHeader}
 use Rattle.rdb_cells.specs.declared.formats.version.StampWords.{StampWords}
@@ -63,3 +64,7 @@ header_in cell =
 -- the header with another stamp
 abbrev pub with_stamp : VersionHeader → Stamp → VersionHeader
 with_stamp h stamp = record h { stamp = stamp }
+
+-- the header that leads to another older version
+abbrev pub with_older : VersionHeader → CellRef → VersionHeader
+with_older h older = record h { older = older }

@@ -1,8 +1,9 @@
 -- The work on a plan over cells, as an index and its callers see it, whatever the cells are.
-use Rattle.std.specs.Prelude.{◌≡◌, ◌+◌, ◌↔◌, ℕ, List, Option}
+use Rattle.std.specs.Prelude.{◌≡◌, ◌+◌, ◌<◌, ◌↔◌, ℕ, List, Option}
 use Rattle.rdb_cells.specs.declared.cells.Cells.{Ghosts}
 use Rattle.rdb_cells.specs.declared.pairs.Pair.{Pair}
 use Rattle.rdb_cells.specs.Images.{Image, IsFree}
+use Rattle.rdb_cells.specs.Links.{IsAmong}
 use Rattle.rdb_cells.specs.Overlays.{Laid}
 use Rattle.rdb_cells.specs.Records.{planned}
 use Rattle.rdb_cells.specs.Untaken.{IsUntaken, HasUntaken}
@@ -58,3 +59,9 @@ pub record TakesAtMost (most : ℕ) (before after : Work) : Type 0 where
 -- the same cells can be taken as before
 abbrev pub TakesNone : Work → Work → Type 0
 TakesNone before after = (n : ℕ) → IsLeft after n ↔ IsLeft before n
+
+-- Of the cells that could be taken, those among these were taken and no others, the lowest first: what is left now is what
+-- was left before without them, and stands above them.
+pub record TakesLowest (before after : Work) (cells : List ℕ) : Type 0 where
+  pub left : (n : ℕ) → IsLeft after n ↔ (IsLeft before n × (¬ IsAmong cells n))
+  pub above : (m n : ℕ) → IsAmong cells m → IsLeft before m → IsLeft after n → m < n

@@ -2,7 +2,7 @@
 ghost use Rattle.std.specs.Prelude.{◌≡◌, ◌+◌, ◌≤◌, length, IfOk};
 ghost use Rattle.rdb_cells.specs.Keys.{SameVersionCells};
 ghost use Rattle.rdb_cells.specs.Index.{Nature, LacksVersion, HasVersion, Puts, Removes, PlansOnlyOwn, IsStanding, IsListing};
-ghost use Rattle.rdb_cells.specs.Index.{StartsEmpty, ListsOnce, HasIndexCells, RestsOnNodes};
+ghost use Rattle.rdb_cells.specs.Index.{StartsEmpty, ListsOnce, HasIndexCells, HasFewNodes, RestsOnNodes};
 ghost use Rattle.rdb_cells.specs.Work.{work, reading, HasLeft, TakesAtMost, TakesNone};
 
 use crate::cells::Cells;
@@ -18,7 +18,7 @@ pub type Refs = List<CellRef>;
 /// free cells that a `put` takes, and when it stands in an image, listing these versions in these nodes.
 ///
 /// Both changes are made in the plan of an overlay, which reads through it. They add at most 50 cells to the plan, and plan
-/// the head, nodes, and free cells of the class's pages alone. The cells of rows and headers stay.
+/// the head, nodes, and free cells alone that the plan can still take, the lowest first. The cells of rows and headers stay.
 pub trait Index {
     ghost nature: { Self → Nature };
 
@@ -62,6 +62,9 @@ pub trait Index {
 
     /// The head is one of an index, and each node is a node of an index, in a cell of its own.
     ghost has_index_cells: { (index : Self) → HasIndexCells (nature index) };
+
+    /// For each listed version an index has at most two nodes, so it gives back what it doesn't need.
+    ghost has_few_nodes: { (index : Self) → HasFewNodes (nature index) };
 
     /// What an index is rests on its head and its nodes, and on what the keys say of the versions that it lists.
     ghost rests_on_nodes: { (index : Self) → RestsOnNodes (nature index) };

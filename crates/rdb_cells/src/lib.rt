@@ -38,7 +38,11 @@ pub use formats::{
 pub use index::{Index, Refs};
 pub use keys::Keys;
 pub use kind::{Kind, is_zero};
-pub use laws::{one_record_settles_its_cells, records_go_back_in_any_order};
+pub use laws::{
+    fewer_cells_are_left, one_record_settles_its_cells, records_go_back_in_any_order,
+    unlogged_write_settles, version_cells_stay, version_order_is_total,
+    written_plan_reads_the_same,
+};
 pub use log::{log_write, take_back};
 pub use overlay::Overlay;
 pub use pairs::{HasPairs, Pair, Pairs};

@@ -92,9 +92,10 @@ impl<C: Cells> Overlay<C> {
         }
     }
 
-    /// Plans what the cell will hold, and nothing of any other. The cost is that of a look-up in the plan.
+    /// Plans what the cell will hold, and nothing of any other. The cell is one that is read through the plan; what the plan
+    /// has is one of the cells below, so it is the same to say that it is a cell below. The cost is that of a look-up in the plan.
     pub fn put(&mut self, at: CellRef, cell: Cell)
-        requires named { IsCell (C.image self.old.cells) at.number }
+        requires named { IsCell (planned self.old.plan.pairs (C.image self.old.cells)) at.number }
         requires room { names self.old.plan.pairs at.number ≡ false → length self.old.plan.pairs < self.old.plan.room }
         ensures plan { self.new ≡ record self.old
             { plan = record self.old.plan { pairs = with_put self.old.plan.pairs (record { at = at; cell = cell }) } } }

@@ -39,7 +39,8 @@ fn find<C: Cells>(cells: &C, first: CellRef, version: CellRef) -> CellRef
 
 impl Index for PlainList {
     ghost use Rattle.rdb_cells.specs.PlainList.{plain_nature};
-    ghost use Rattle.rdb_cells.specs.PlainLaws.{plain_starts_empty, plain_lists_once, plain_has_index_cells, plain_rests_on_nodes};
+    ghost use Rattle.rdb_cells.specs.PlainLaws.{plain_starts_empty, plain_lists_once, plain_has_index_cells};
+    ghost use Rattle.rdb_cells.specs.PlainLaws.{plain_has_few_nodes, plain_rests_on_nodes};
 
     ghost nature = { λ list. plain_nature list.class list.head.number };
 
@@ -90,6 +91,8 @@ impl Index for PlainList {
     ghost lists_once = { λ list. plain_lists_once list.class list.head.number };
 
     ghost has_index_cells = { λ list. plain_has_index_cells list.class list.head.number };
+
+    ghost has_few_nodes = { λ list. plain_has_few_nodes list.class list.head.number };
 
     ghost rests_on_nodes = { λ list. plain_rests_on_nodes list.class list.head.number };
 }

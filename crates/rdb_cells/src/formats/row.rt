@@ -4,7 +4,7 @@
 //! |---------|-----------------------------------------------------|
 //! | 0 high  | the next cell of the row                            |
 //! | 1 to 15 | 60 bytes of the row, the lowest of each word first  |
-ghost use Rattle.std.specs.Prelude.{◌≡◌, ◌<◌, ◌≤◌, length};
+ghost use Rattle.std.specs.Prelude.{◌≡◌, ◌<◌, ◌≤◌, ◌^◌, length, slice_index};
 ghost use Rattle.rdb_cells.specs.RowFormat.{IsRowCell, filled_up, row_cell, row_cell_bytes, row_in, word_of};
 ghost use Rattle.rdb_cells.specs.Words.{IsOfKind};
 
@@ -40,7 +40,8 @@ impl RowCell {
     /// Returns the part of a row that has these bytes, filled up with zeros.
     pub fn holding(bytes: &[u8], next: CellRef) -> RowCell
         requires { length bytes.now ≤ row_cell_bytes }
-        ensures { result ≡ record { next = next; bytes = filled_up bytes.now } }
+        ensures value { result ≡ record { next = next; bytes = filled_up bytes.now } }
+        ensures proper { next.number < 2 ^ 24 → IsRowCell result }
     {
         let mut whole = [0; ROW_CELL_BYTES];
         whole[..bytes.len()].copy_from_slice(bytes);
@@ -81,13 +82,14 @@ impl RowCell {
     #[tactic(auto, using(crate::proofs::RowFormatLemmas::row_back))]
     pub fn of_cell(cell: &Cell) -> RowCell
         ensures value { result ≡ row_in cell.now }
+        ensures proper { IsRowCell result }
         ensures inverse { (r : RowCell) → IsRowCell r → cell.now ≡ row_cell r → result ≡ r }
     {
         let (_, words) = cell.words.split_at(1);
         let mut bytes = [0; ROW_CELL_BYTES];
         LittleEndian::write_u32_into(words, &mut bytes);
         RowCell {
-            next: RowCell::next_in(cell),
+            next: high_ref(cell),
             bytes,
         }
     }
@@ -97,5 +99,13 @@ impl RowCell {
         ensures { result ≡ (row_in cell.now).next }
     {
         high_ref(cell)
+    }
+
+    /// Reads the byte at a place of the part alone.
+    pub fn byte_in(cell: &Cell, place: usize) -> u8
+        requires { place < row_cell_bytes }
+        ensures { result ≡ slice_index (row_in cell.now).bytes place }
+    {
+        cell.words[1 + place / 4].to_le_bytes()[place % 4]
     }
 }

@@ -12,11 +12,12 @@
 //! | 9       | the connection's slot; 0 for a commit                        |
 //! | 10, 11  | the connection's serial; 0 for a commit                      |
 //! | 12, 13  | the version's serial                                         |
-ghost use Rattle.std.specs.Prelude.{◌≡◌};
-ghost use Rattle.rdb_cells.specs.VersionFormat.{IsHeader, header_cell, header_in, second_word, stamp_in, stamp_of, stamp_words, with_stamp};
-ghost use Rattle.rdb_cells.specs.Words.{IsOfKind};
+ghost use Rattle.std.specs.Prelude.{◌≡◌, ◌<◌, ◌^◌};
+ghost use Rattle.rdb_cells.specs.VersionFormat.{IsHeader, header_cell, header_in, second_word, stamp_in, stamp_of, stamp_words};
+ghost use Rattle.rdb_cells.specs.VersionFormat.{with_older, with_stamp};
+ghost use Rattle.rdb_cells.specs.Words.{IsOfKind, kind_number};
 
-use crate::formats::words::{first_word, high_ref, low_half, upper_half, wide};
+use crate::formats::words::{first_word, high_is_small, high_ref, low_half, upper_half, wide};
 use crate::kind::Kind;
 use rdb_base::identity::{ConnId, Stamp, TxId};
 use rdb_pages::{Cell, CellRef};
@@ -107,6 +108,7 @@ impl VersionHeader {
     /// Reads a header. A cell that a header was written to gives that header.
     pub fn of_cell(cell: &Cell) -> VersionHeader
         ensures value { result ≡ header_in cell.now }
+        ensures proper { IsHeader result }
         ensures inverse { (h : VersionHeader) → IsHeader h → cell.now ≡ header_cell h → result ≡ h }
     {
         VersionHeader {
@@ -164,8 +166,11 @@ impl VersionHeader {
     /// Returns the cell with another stamp, and all else as it was.
     pub fn with_stamp(cell: &Cell, stamp: Stamp) -> Cell
         ensures value { header_in result ≡ with_stamp (header_in cell.now) stamp }
+        ensures kind { kind_number result ≡ kind_number cell.now }
+        ensures proper { IsHeader (header_in result) }
         ensures whole { (h : VersionHeader) → IsHeader h → cell.now ≡ header_cell h → result ≡ header_cell (with_stamp h stamp) }
     {
+        high_is_small(cell);
         let stamp = stamp_words(stamp);
         let mut words = cell.words;
         words[6] = stamp.mark;
@@ -174,6 +179,19 @@ impl VersionHeader {
         words[9] = stamp.slot;
         words[10] = low_half(stamp.connection);
         words[11] = upper_half(stamp.connection);
+        Cell { words }
+    }
+
+    /// Returns the cell of the header that leads to another older version, and all else as it was.
+    pub fn with_older(cell: &Cell, older: CellRef) -> Cell
+        requires { older.number < 2 ^ 24 }
+        ensures value { header_in result ≡ with_older (header_in cell.now) older }
+        ensures kind { kind_number result ≡ kind_number cell.now }
+        ensures proper { IsHeader (header_in result) }
+        ensures whole { (h : VersionHeader) → IsHeader h → cell.now ≡ header_cell h → result ≡ header_cell (with_older h older) }
+    {
+        let mut words = cell.words;
+        words[0] = words[0] % 256 + 256 * older.number;
         Cell { words }
     }
 }

@@ -15,16 +15,25 @@ pub fn first_word(kind: Kind, high: u32) -> u32
 
 /// Returns the upper 24 bits of the cell's first word.
 pub fn high(cell: &Cell) -> u32
-    ensures { result ≡ high_of cell.now }
+    ensures value { result ≡ high_of cell.now }
+    ensures small { result < 2 ^ 24 }
 {
     cell.words[0] / 256
 }
 
 /// Returns the reference in the upper 24 bits of the cell's first word.
 pub fn high_ref(cell: &Cell) -> CellRef
-    ensures { result ≡ record { number = high_of cell.now } }
+    ensures value { result ≡ record { number = high_of cell.now } }
+    ensures small { result.number < 2 ^ 24 }
 {
     CellRef { number: high(cell) }
+}
+
+/// Says that a number of 24 bits stands above the kind. It does nothing.
+pub fn high_is_small(cell: &Cell)
+    ensures { high_of cell.now < 2 ^ 24 }
+{
+    let _first = cell.words[0];
 }
 
 /// Returns the reference in a word.

@@ -1,7 +1,6 @@
 use Rattle.std.proofs.Common.{◌≡◌, ◌≢◌, refl, subst, arith, rules}
-use Rattle.rdb_cells.specs.PlainList.{LeadsTo, AreEntries}
-use Rattle.rdb_pages.specs.declared.cell.CellRef.{CellRef}
-use Rattle.rdb_cells.proofs.PlainLemmas.{leads_there, listed_first, listed_there, listed_more, listed_at_none, listed_at_end}
+use Rattle.rdb_cells.specs.PlainList.{LeadsTo}
+use Rattle.rdb_cells.proofs.PlainLemmas.{leads_there, listed_there, listed_more, listed_at_none, listed_at_end}
 use Rattle.rdb_cells.proofs.doubles.plain_list.PlainListIndex.refs.Goals as goal
 
 pub returns-then-eq : goal.returns-then-eq

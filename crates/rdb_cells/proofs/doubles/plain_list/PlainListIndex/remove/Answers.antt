@@ -1,5 +1,4 @@
 use Rattle.std.proofs.Common.{◌≡◌, ◌+◌, ◌<◌, ◌≤◌, length, refl, sym, ap, ap₂, subst, ◌∙◌, arith}
-use Rattle.rdb_pages.specs.declared.cell.CellRef.{CellRef}
 use Rattle.rdb_pages.specs.Pages.{zero_cell}
 use Rattle.rdb_cells.specs.declared.formats.patricia.PatriciaEntry.{PatriciaEntry as Entry}
 use Rattle.rdb_cells.specs.HeadFormat.{rooted_head}
