@@ -1,11 +1,22 @@
 //! What the tree lists: all versions, those with a key, and the first past a place. It only reads.
+ghost use Rattle.std.specs.Prelude.{◌≡◌, ◌+◌, ◌*◌, ◌≤◌, ◌<◌, ◌++◌, ℕ, slice_get, take, None, OnOk, if◌then◌else◌, true};
+ghost use Rattle.std.specs.List.{last_or, filter};
+ghost use Rattle.std.specs.Option.{unwrap_or};
+ghost use Rattle.rdb_cells.specs.Keys.{says};
+ghost use Rattle.rdb_cells.specs.TreeFormat.{most_keys};
+ghost use Rattle.rdb_cells.specs.Words.{no_ref};
+ghost use Rattle.rdb_tree.specs.Lookups.{first_past, has_key, PlaceFits, first_of};
+ghost use Rattle.rdb_tree.specs.Nature.{IsRootedAt};
+ghost use Rattle.rdb_tree.specs.Order.{AreKeyed};
+ghost use Rattle.rdb_tree.specs.Trees.{Tree, BTree, IsTreeAt, versions, versions_of, levels_of, children_in};
+
 use crate::node::{MAX_LEVELS, children_of, keys_of, node_at};
-use crate::search::{count_less, count_up_to};
+use crate::search::count_near;
 use rdb_base::list::NoMemory;
 use rdb_base::operation::Place;
 use rdb_base::steps::Steps;
 use rdb_base::value::Row;
-use rdb_cells::{Cells, Keys, NONE, Refs};
+use rdb_cells::{Cells, Keys, NONE, Refs, TreeNode};
 use rdb_pages::CellRef;
 use std::cmp::Ordering;
 use std::sync::ledger::Ledger;
@@ -16,7 +27,10 @@ pub(crate) fn gather_versions<C: Cells>(
     at: CellRef,
     levels: u32,
     refs: &mut Refs,
-) -> Result<(), NoMemory> {
+) -> Result<(), NoMemory>
+    requires { (h : ℕ) × (t : BTree h) × IsTreeAt (C.image cells.now) at levels h t }
+    ensures { OnOk result ((h : ℕ) (t : BTree h) → IsTreeAt (C.image cells.now) at levels h t → refs.new ≡ refs.old ++ versions h t) }
+{
     let node = node_at(cells, at);
     let children = children_of(&node);
     for (place, version) in keys_of(&node).iter().enumerate() {
@@ -40,7 +54,14 @@ pub(crate) fn gather_equal<C: Cells, K: Keys, L: Ledger>(
     levels: u32,
     refs: &mut Refs,
     steps: &mut Steps<L>,
-) -> Result<(), NoMemory> {
+) -> Result<(), NoMemory>
+    requires tree { (h : ℕ) × (t : BTree h) × IsTreeAt (C.image cells.now) at levels h t
+        × AreKeyed (says (K.meaning keys.now) (C.image cells.now)) (versions h t) }
+    requires key { (K.meaning keys.now).fits key.now ≡ true }
+    ensures { OnOk result ((h : ℕ) (t : BTree h) → IsTreeAt (C.image cells.now) at levels h t →
+        AreKeyed (says (K.meaning keys.now) (C.image cells.now)) (versions h t) →
+        refs.new ≡ refs.old ++ filter (has_key (says (K.meaning keys.now) (C.image cells.now)) key.now) (versions h t)) }
+{
     let node = node_at(cells, at);
     let children = children_of(&node);
     for (place, version) in keys_of(&node).iter().enumerate() {
@@ -62,44 +83,22 @@ pub(crate) fn gather_equal<C: Cells, K: Keys, L: Ledger>(
     }
 }
 
-/// Returns how many of the versions, which ascend, aren't past the place upwards.
-fn count_not_past_up<C: Cells, K: Keys, L: Ledger>(
-    cells: &C,
-    keys: &K,
-    versions: &[CellRef],
-    place: &Place,
-    steps: &mut Steps<L>,
-) -> usize {
-    match place {
-        Place::Start => 0,
-        Place::End => versions.len(),
-        Place::At { key, id } => count_up_to(cells, keys, versions, key, *id, steps),
-    }
-}
-
-/// Returns how many of the versions, which ascend, are past the place downwards.
-fn count_past_down<C: Cells, K: Keys, L: Ledger>(
-    cells: &C,
-    keys: &K,
-    versions: &[CellRef],
-    place: &Place,
-    steps: &mut Steps<L>,
-) -> usize {
-    match place {
-        Place::Start => 0,
-        Place::End => versions.len(),
-        Place::At { key, id } => count_less(cells, keys, versions, key, *id, steps),
-    }
-}
-
-/// Returns the first version past the place upwards, of a tree with this root.
-pub(crate) fn seek_up<C: Cells, K: Keys, L: Ledger>(
+/// Returns the first version past the place, upwards or downwards, of a tree with this root.
+pub(crate) fn seek_from<C: Cells, K: Keys, L: Ledger>(
     cells: &C,
     keys: &K,
     place: &Place,
+    up: bool,
     root: CellRef,
     steps: &mut Steps<L>,
-) -> Option<CellRef> {
+) -> Option<CellRef>
+    requires rooted { (tree : Tree) × IsRootedAt (says (K.meaning keys.now) (C.image cells.now)) (C.image cells.now) root tree }
+    requires place { PlaceFits (K.meaning keys.now) place.now }
+    ensures first { (tree : Tree) → IsRootedAt (says (K.meaning keys.now) (C.image cells.now)) (C.image cells.now) root tree →
+        result ≡ first_past (says (K.meaning keys.now) (C.image cells.now)) place.now up (versions_of tree) }
+    ensures bound { (tree : Tree) → IsRootedAt (says (K.meaning keys.now) (C.image cells.now)) (C.image cells.now) root tree →
+        steps.new ≤ steps.old + 7 * levels_of tree }
+{
     let mut at = root;
     let mut best = None;
     for _ in 0..MAX_LEVELS {
@@ -108,32 +107,32 @@ pub(crate) fn seek_up<C: Cells, K: Keys, L: Ledger>(
         }
         let node = node_at(cells, at);
         let versions = keys_of(&node);
-        let passed = count_not_past_up(cells, keys, versions, place, steps);
-        best = versions.get(passed).copied().or(best);
-        at = children_of(&node).get(passed).copied().unwrap_or(NONE);
+        let near = count_near(cells, keys, versions, place, up, steps);
+        best = nearest(versions, near, up, best);
+        at = child_at(&node, near);
     }
-    best
+    unreachable!()
 }
 
-/// Returns the first version past the place downwards, of a tree with this root.
-pub(crate) fn seek_down<C: Cells, K: Keys, L: Ledger>(
-    cells: &C,
-    keys: &K,
-    place: &Place,
-    root: CellRef,
-    steps: &mut Steps<L>,
-) -> Option<CellRef> {
-    let mut at = root;
-    let mut best = None;
-    for _ in 0..MAX_LEVELS {
-        if at == NONE {
-            return best;
-        }
-        let node = node_at(cells, at);
-        let versions = keys_of(&node);
-        let past = count_past_down(cells, keys, versions, place, steps);
-        best = versions[..past].last().copied().or(best);
-        at = children_of(&node).get(past).copied().unwrap_or(NONE);
-    }
-    best
+/// Returns the version next to those on the near side, upwards the first behind them and downwards the last of them; or else
+/// the best so far.
+fn nearest(versions: &[CellRef], near: usize, up: bool, best: Option<CellRef>) -> Option<CellRef>
+    ensures { result ≡ first_of (if up then slice_get versions.now near else last_or None (take near versions.now)) best }
+{
+    let own = if up {
+        versions.get(near).copied()
+    } else if near == 0 {
+        None
+    } else {
+        versions.get(near - 1).copied()
+    };
+    own.or(best)
+}
+
+/// Returns the child at a place, and none of a leaf.
+fn child_at(node: &TreeNode, place: usize) -> CellRef
+    requires { node.now.count ≤ most_keys }
+    ensures { result ≡ unwrap_or (slice_get (children_in node.now) place) no_ref }
+{
+    children_of(node).get(place).copied().unwrap_or(NONE)
 }
