@@ -1,6 +1,6 @@
 -- Runs of references in an array, and the keys and children of a node's cell.
 use Rattle.std.proofs.Common.{◌≡◌, ◌≤◌, ◌+◌, ◌-◌, ◌<◌, zero, suc, ℕ, List, [], ◌∷◌, ◌++◌, length, length-append, take, drop, Bool, true, false, refl, sym, ap, ap₂, subst, ◌∙◌, arith}
-use Rattle.std.proofs.lemmas.List.{take_at, append_assoc, drop-replicate}
+use Rattle.std.proofs.lemmas.List.{take_at, append_assoc, drop-replicate, length-take}
 use Rattle.std.proofs.lemmas.Slice.{take-put_mid}
 use Rattle.std.specs.Prelude.{replicate, ◌==◌, nat_eq}
 use borrow.Author.Tests.{ne_eqb}
@@ -45,3 +45,7 @@ rest_blank size refs array same = ap (drop (length refs)) same ∙ drop-replicat
 pub empty_or : (refs : List CellRef) → (nat_eq (length refs) 0) ≡ is_empty refs
 empty_or [] = refl
 empty_or (r ∷ refs) = ne_eqb (suc (length refs)) 0 (λ same. absurd (omega arith))
+
+-- a part from the front on is no longer than what was taken
+pub take_within : (n : ℕ) (refs front : List CellRef) → front ≡ take n refs → length front ≤ n
+take_within n refs front same = let long = length-take n refs in let both = ap (length {A = CellRef}) same in omega arith

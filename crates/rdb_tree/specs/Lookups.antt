@@ -1,5 +1,5 @@
 -- What the lookups of a tree index give.
-use Rattle.std.specs.Prelude.{◌≡◌, ℕ, List, Option, Some, None, Bool, true, false, slice_get}
+use Rattle.std.specs.Prelude.{◌≡◌, ℕ, List, Option, Some, None, Bool, true, false, slice_get, take}
 use Rattle.std.specs.List.{filter, last_or}
 use Rattle.std.specs.Ordering.{is_eq, is_lt, is_le, is_gt}
 use Rattle.std.specs.declared.cmp.Ordering.{Ordering}
@@ -52,3 +52,8 @@ PlaceFits keys _ = Unit {0}
 abbrev pub first_of : Option CellRef → Option CellRef → Option CellRef
 first_of None other = other
 first_of (Some r) other = Some r
+
+-- the key next to so many on the near side, upwards or downwards
+abbrev pub key_beyond : Bool → ℕ → List CellRef → Option CellRef
+key_beyond true near keys = slice_get keys near
+key_beyond false near keys = last_or None (take near keys)

@@ -38,9 +38,9 @@ abbrev pub most_levels : ℕ
 most_levels = 11
 
 -- a sound tree with this root
-pub record IsRootedAt (said : Sayings) (image : Image) (root : CellRef) (tree : Tree) : Type 0 where
+pub record IsRootedAt (said : Sayings) (image : Image) (at : CellRef) (tree : Tree) : Type 0 where
   pub sound : IsSound said image tree
-  pub root : root_of tree ≡ root
+  pub root : root_of tree ≡ at
   pub levels : levels_of tree ≤ most_levels
 
 abbrev pub tree_nature : ℕ → ℕ → Nature

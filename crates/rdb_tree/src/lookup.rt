@@ -1,11 +1,11 @@
 //! What the tree lists: all versions, those with a key, and the first past a place. It only reads.
-ghost use Rattle.std.specs.Prelude.{◌≡◌, ◌+◌, ◌*◌, ◌≤◌, ◌<◌, ◌++◌, ℕ, slice_get, take, None, OnOk, if◌then◌else◌, true};
+ghost use Rattle.std.specs.Prelude.{◌≡◌, ◌+◌, ◌*◌, ◌≤◌, ◌<◌, ◌++◌, ℕ, length, slice_get, None, OnOk, true};
 ghost use Rattle.std.specs.List.{last_or, filter};
 ghost use Rattle.std.specs.Option.{unwrap_or};
 ghost use Rattle.rdb_cells.specs.Keys.{says};
 ghost use Rattle.rdb_cells.specs.TreeFormat.{most_keys};
 ghost use Rattle.rdb_cells.specs.Words.{no_ref};
-ghost use Rattle.rdb_tree.specs.Lookups.{first_past, has_key, PlaceFits, first_of};
+ghost use Rattle.rdb_tree.specs.Lookups.{first_past, has_key, PlaceFits, first_of, key_beyond};
 ghost use Rattle.rdb_tree.specs.Nature.{IsRootedAt};
 ghost use Rattle.rdb_tree.specs.Order.{AreKeyed};
 ghost use Rattle.rdb_tree.specs.Trees.{Tree, BTree, IsTreeAt, versions, versions_of, levels_of, children_in};
@@ -117,16 +117,22 @@ pub(crate) fn seek_from<C: Cells, K: Keys, L: Ledger>(
 /// Returns the version next to those on the near side, upwards the first behind them and downwards the last of them; or else
 /// the best so far.
 fn nearest(versions: &[CellRef], near: usize, up: bool, best: Option<CellRef>) -> Option<CellRef>
-    ensures { result ≡ first_of (if up then slice_get versions.now near else last_or None (take near versions.now)) best }
+    requires { near ≤ length versions.now }
+    ensures { result ≡ first_of (key_beyond up near versions.now) best }
 {
     let own = if up {
         versions.get(near).copied()
-    } else if near == 0 {
-        None
     } else {
-        versions.get(near - 1).copied()
+        last_of(&versions[..near])
     };
     own.or(best)
+}
+
+/// Returns the last version, if there is one.
+fn last_of(versions: &[CellRef]) -> Option<CellRef>
+    ensures { result ≡ last_or None versions.now }
+{
+    versions.last().copied()
 }
 
 /// Returns the child at a place, and none of a leaf.
