@@ -5,3 +5,6 @@ pub mod SeekLemmas
 pub mod OrderLemmas
 pub mod NodeLemmas
 pub mod SoughtLemmas
+pub mod LevelLemmas
+pub mod HeadLemmas
+pub mod GatherLemmas

@@ -1,8 +1,8 @@
 //! What the tree lists: all versions, those with a key, and the first past a place. It only reads.
-ghost use Rattle.std.specs.Prelude.{◌≡◌, ◌+◌, ◌*◌, ◌≤◌, ◌<◌, ◌++◌, ℕ, length, slice_get, None, OnOk, true};
+ghost use Rattle.std.specs.Prelude.{◌≡◌, ◌+◌, ◌*◌, ◌≤◌, ◌<◌, ◌++◌, ℕ, length, slice_get, None, OnOk, Contains, true};
 ghost use Rattle.std.specs.List.{last_or, filter};
 ghost use Rattle.std.specs.Option.{unwrap_or};
-ghost use Rattle.rdb_cells.specs.Keys.{says};
+ghost use Rattle.rdb_cells.specs.Keys.{says, HasKey};
 ghost use Rattle.rdb_cells.specs.TreeFormat.{most_keys};
 ghost use Rattle.rdb_cells.specs.Words.{no_ref};
 ghost use Rattle.rdb_tree.specs.Lookups.{first_past, has_key, PlaceFits, first_of, key_beyond};
@@ -21,7 +21,7 @@ use rdb_pages::CellRef;
 use std::cmp::Ordering;
 use std::sync::ledger::Ledger;
 
-/// Appends the versions of a tree of so many levels at most, in order.
+/// Appends the versions of a tree with fewer levels above its leaves than this, in order. The only error is want of memory.
 pub(crate) fn gather_versions<C: Cells>(
     cells: &C,
     at: CellRef,
@@ -32,20 +32,20 @@ pub(crate) fn gather_versions<C: Cells>(
     ensures { OnOk result ((h : ℕ) (t : BTree h) → IsTreeAt (C.image cells.now) at levels h t → refs.new ≡ refs.old ++ versions h t) }
 {
     let node = node_at(cells, at);
+    let own = keys_of(&node);
+    if node.leaf {
+        return refs.extend_from_slice(own);
+    }
     let children = children_of(&node);
-    for (place, version) in keys_of(&node).iter().enumerate() {
-        if let Some(child) = children.get(place) {
-            gather_versions(cells, *child, levels - 1, refs)?;
-        }
-        refs.push(*version)?;
+    for place in 0..own.len() {
+        gather_versions(cells, children[place], levels - 1, refs)?;
+        refs.push(own[place])?;
     }
-    match children.last() {
-        Some(child) => gather_versions(cells, *child, levels - 1, refs),
-        None => Ok(()),
-    }
+    gather_versions(cells, children[own.len()], levels - 1, refs)
 }
 
-/// Appends the versions with the key of a tree of so many levels at most, in order.
+/// Appends the versions with the key, in order, of a tree with fewer levels above its leaves than this. The only error is want
+/// of memory.
 pub(crate) fn gather_equal<C: Cells, K: Keys, L: Ledger>(
     cells: &C,
     keys: &K,
@@ -63,24 +63,46 @@ pub(crate) fn gather_equal<C: Cells, K: Keys, L: Ledger>(
         refs.new ≡ refs.old ++ filter (has_key (says (K.meaning keys.now) (C.image cells.now)) key.now) (versions h t)) }
 {
     let node = node_at(cells, at);
+    let own = keys_of(&node);
+    if node.leaf {
+        return push_equal(cells, keys, key, own, refs, steps);
+    }
     let children = children_of(&node);
-    for (place, version) in keys_of(&node).iter().enumerate() {
-        let order = keys.against(cells, *version, key, None, steps);
-        if order == Ordering::Less {
-            continue;
+    for place in 0..own.len() {
+        match keys.against(cells, own[place], key, None, steps) {
+            Ordering::Less => {}
+            Ordering::Equal => {
+                gather_equal(cells, keys, key, children[place], levels - 1, refs, steps)?;
+                refs.push(own[place])?;
+            }
+            Ordering::Greater => {
+                return gather_equal(cells, keys, key, children[place], levels - 1, refs, steps);
+            }
         }
-        if let Some(child) = children.get(place) {
-            gather_equal(cells, keys, key, *child, levels - 1, refs, steps)?;
-        }
-        if order == Ordering::Greater {
-            return Ok(());
-        }
-        refs.push(*version)?;
     }
-    match children.last() {
-        Some(child) => gather_equal(cells, keys, key, *child, levels - 1, refs, steps),
-        None => Ok(()),
+    gather_equal(cells, keys, key, children[own.len()], levels - 1, refs, steps)
+}
+
+/// Appends those of the versions that have the key.
+fn push_equal<C: Cells, K: Keys, L: Ledger>(
+    cells: &C,
+    keys: &K,
+    key: &Row,
+    own: &[CellRef],
+    refs: &mut Refs,
+    steps: &mut Steps<L>,
+) -> Result<(), NoMemory>
+    requires keyed { (r : CellRef) → Contains own.now r → HasKey (K.meaning keys.now) (C.image cells.now) r }
+    requires key { (K.meaning keys.now).fits key.now ≡ true }
+    ensures { OnOk result (refs.new ≡ refs.old ++ filter (has_key (says (K.meaning keys.now) (C.image cells.now)) key.now) own.now) }
+{
+    for place in 0..own.len() {
+        match keys.against(cells, own[place], key, None, steps) {
+            Ordering::Equal => refs.push(own[place])?,
+            _ => {}
+        }
     }
+    Ok(())
 }
 
 /// Returns the first version past the place, upwards or downwards, of a tree with this root.
