@@ -88,7 +88,7 @@ drop_there [] n x at = cc
 drop_there (y ∷ ys) zero x at = let same : y ≡ x = cc in ap (λ (z : _). z ∷ ys) same
 drop_there (y ∷ ys) (suc n) x at = drop_there ys n x at
 
-get_is : {X : Type 0} (xs : List X) (n : ℕ) (d : X) → n < length xs → slice_get xs n ≡ Some (get_or xs n d)
+pub get_is : {X : Type 0} (xs : List X) (n : ℕ) (d : X) → n < length xs → slice_get xs n ≡ Some (get_or xs n d)
 get_is [] n d below = absurd (omega arith)
 get_is (x ∷ xs) zero d below = refl
 get_is (x ∷ xs) (suc n) d below = get_is xs n d (omega arith)

@@ -8,3 +8,5 @@ pub mod SoughtLemmas
 pub mod LevelLemmas
 pub mod HeadLemmas
 pub mod GatherLemmas
+pub mod EqualLemmas
+pub mod WholeLemmas

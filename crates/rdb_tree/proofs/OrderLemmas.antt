@@ -133,6 +133,24 @@ module _ (said : Sayings) where
   past_is (At key id) true r some = past_or_near key id (said.version_of r.number) some
   past_is (At key id) false r some = refl
 
+  sooner_key : (key : List Value) (a b : CellRef) → IsBefore said a b → goes is_lt said key None b ≡ true → goes is_lt said key None a ≡ true
+  sooner_key key a b before near =
+      tested is_lt (λ v. key_order v key None) (said.version_of a.number) before.first before.is_first
+      ∙ key_sooner key 0 before.first before.second before.less
+      (sym (tested is_lt (λ v. key_order v key None) (said.version_of b.number) before.second before.is_second) ∙ near)
+
+  first_key : (key : List Value) (a b : CellRef) → IsBefore said a b → goes is_le said key None b ≡ true → goes is_le said key None a ≡ true
+  first_key key a b before near =
+      tested is_le (λ v. key_order v key None) (said.version_of a.number) before.first before.is_first
+      ∙ key_first key 0 before.first before.second before.less
+      (sym (tested is_le (λ v. key_order v key None) (said.version_of b.number) before.second before.is_second) ∙ near)
+
+  pub less_cuts : (key : List Value) (rs : List CellRef) → AreAscending said rs → IsCut (goes is_lt said key None) rs
+  less_cuts key rs ascending = is_cut said (goes is_lt said key None) (sooner_key key) rs ascending
+
+  pub up_to_cuts : (key : List Value) (rs : List CellRef) → AreAscending said rs → IsCut (goes is_le said key None) rs
+  up_to_cuts key rs ascending = is_cut said (goes is_le said key None) (first_key key) rs ascending
+
 -- two tests that agree at each element
 same_filter : (p q : CellRef → Bool) (rs : List CellRef) → ((r : CellRef) → Contains rs r → p r ≡ q r) → filter p rs ≡ filter q rs
 same_filter p q [] agree = refl

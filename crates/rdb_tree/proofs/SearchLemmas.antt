@@ -5,7 +5,7 @@ use Rattle.std.proofs.lemmas.List.Sums.{prefix_len-drop_yes, prefix_len-drop_no,
 use Rattle.std.proofs.lemmas.List.Elements.{Contains-get_or}
 use Rattle.std.specs.List.{prefix_len, Contains}
 use Rattle.std.specs.Option.{ForSome, option_map}
-use Rattle.std.specs.Ordering.{is_lt, is_some_and}
+use Rattle.std.specs.Ordering.{is_lt, is_eq, is_some_and}
 use Rattle.std.specs.declared.cmp.Ordering.{Ordering}
 use Rattle.std.specs.declared.cmp.Ordering.TheVariants.{Less, Equal, Greater}
 use Rattle.rdb_base.specs.declared.value.Value.{Value}
@@ -54,6 +54,11 @@ pub not_less : (o : Ordering) → (¬ (o ≡ Less)) → is_lt o ≡ false
 not_less Less other = absurd (other refl)
 not_less Equal other = refl
 not_less Greater other = refl
+
+pub not_equal : (o : Ordering) → (¬ (o ≡ Equal)) → is_eq o ≡ false
+not_equal Less other = refl
+not_equal Equal other = absurd (other refl)
+not_equal Greater other = refl
 
 -- a version of a row is one of it
 pub within : (rs : List CellRef) (count : ℕ) (d : CellRef) → count < length rs → Contains rs (get_or rs count d)

@@ -63,15 +63,15 @@ last_at (x ∷ xs) =
 
 -- a filter that keeps all, and one that keeps none
 module _ (test : CellRef → Bool) where
-  keep_all : (xs : List CellRef) → Each (λ r. test r ≡ true) xs → filter test xs ≡ xs
+  pub keep_all : (xs : List CellRef) → Each (λ r. test r ≡ true) xs → filter test xs ≡ xs
   keep_all [] each = refl
   keep_all (x ∷ xs) each = ap (λ (b : Bool). cond b (x ∷ filter test xs) (filter test xs)) each.0 ∙ ap (λ (rest : List CellRef). x ∷ rest) (keep_all xs each.1)
 
-  keep_none : (xs : List CellRef) → Each (λ r. test r ≡ false) xs → filter test xs ≡ []
+  pub keep_none : (xs : List CellRef) → Each (λ r. test r ≡ false) xs → filter test xs ≡ []
   keep_none [] each = refl
   keep_none (x ∷ xs) each = ap (λ (b : Bool). cond b (x ∷ filter test xs) (filter test xs)) each.0 ∙ keep_none xs each.1
 
-  keep_one : (x : CellRef) (xs : List CellRef) → test x ≡ true → filter test (x ∷ xs) ≡ x ∷ filter test xs
+  pub keep_one : (x : CellRef) (xs : List CellRef) → test x ≡ true → filter test (x ∷ xs) ≡ x ∷ filter test xs
   keep_one x xs yes_ = ap (λ (b : Bool). cond b (x ∷ filter test xs) (filter test xs)) yes_
 
   keep_other : (x : CellRef) (xs : List CellRef) → test x ≡ false → filter test (x ∷ xs) ≡ filter test xs
@@ -87,7 +87,7 @@ module _ (near : CellRef → Bool) where
   near_not (x ∷ xs) each = (ap not each.0, near_not xs each.1)
 
   -- before one on the near side all are
-  all_before : (xs : List CellRef) (k : CellRef) (ys : List CellRef) → IsCut near (xs ++ k ∷ ys) → near k ≡ true → Each (λ r. near r ≡ true) xs
+  pub all_before : (xs : List CellRef) (k : CellRef) (ys : List CellRef) → IsCut near (xs ++ k ∷ ys) → near k ≡ true → Each (λ r. near r ≡ true) xs
   all_before [] k ys cut near_k = tt
   all_before (x ∷ xs) k ys cut near_k = (by_test (near x) refl, all_before xs k ys cut.1 near_k)
     where
@@ -95,7 +95,7 @@ module _ (near : CellRef → Bool) where
       by_test true is = is
       by_test false is = absurd (false≢true (sym (each_back (λ r. near r ≡ false) xs (k ∷ ys) (cut.0 is)).0 ∙ near_k))
 
-  cut_back : (xs ys : List CellRef) → IsCut near (xs ++ ys) → IsCut near ys
+  pub cut_back : (xs ys : List CellRef) → IsCut near (xs ++ ys) → IsCut near ys
   cut_back [] ys cut = cut
   cut_back (x ∷ xs) ys cut = cut_back xs ys cut.1
 

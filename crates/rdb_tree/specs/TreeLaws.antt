@@ -44,8 +44,8 @@ among_either (x ∷ xs) ys n (inr within) = elim (among_either xs ys n within) [
 contains_first : (r : CellRef) (rs : List CellRef) → Contains (r ∷ rs) r
 contains_first r rs = (0, zero-lt-suc (length rs), refl)
 
-contains_later : (q r : CellRef) (rs : List CellRef) → Contains rs q → Contains (r ∷ rs) q
-contains_later q r rs within = (suc within.0, suc-le-suc_iff.1 within.1, within.2)
+contains_later : (r q : CellRef) (rs : List CellRef) → Contains rs q → Contains (r ∷ rs) q
+contains_later r q rs within = (suc within.0, suc-le-suc_iff.1 within.1, within.2)
 
 -- the first list is no longer than the second
 abbrev IsNoLonger : List ℕ → List CellRef → Type 0

@@ -61,9 +61,10 @@ impl Tree {
     {
         let mut refs = List::new(self.alloc);
         let root = IndexHead::root_in(cells.read(self.head), 0);
-        if root != NONE {
-            gather_equal(cells, keys, key, root, MAX_LEVELS, &mut refs, steps)?;
+        if root == NONE {
+            return Ok(refs);
         }
+        gather_equal(cells, keys, key, root, MAX_LEVELS, &mut refs, steps)?;
         Ok(refs)
     }
 
@@ -111,9 +112,10 @@ impl Index for Tree {
     fn refs<C: Cells>(&self, cells: &C) -> Result<Refs, NoMemory> {
         let mut refs = List::new(self.alloc);
         let root = IndexHead::root_in(cells.read(self.head), 0);
-        if root != NONE {
-            gather_versions(cells, root, MAX_LEVELS, &mut refs)?;
+        if root == NONE {
+            return Ok(refs);
         }
+        gather_versions(cells, root, MAX_LEVELS, &mut refs)?;
         Ok(refs)
     }
 
