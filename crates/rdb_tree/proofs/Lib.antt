@@ -11,3 +11,4 @@ pub mod GatherLemmas
 pub mod EqualLemmas
 pub mod WholeLemmas
 pub mod ChangeLemmas
+pub mod WayLemmas

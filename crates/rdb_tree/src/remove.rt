@@ -200,7 +200,12 @@ fn share_from_left<C: Cells>(
     let own_children = joined(moved_children, &[], children_of(&pair.right));
     let between = with_other(versions, place, moved[0]);
     put_node(cells, pair.left_at, kept, kept_children);
-    put_node(cells, pair.right_at, own.as_slice(), own_children.as_slice());
+    put_node(
+        cells,
+        pair.right_at,
+        own.as_slice(),
+        own_children.as_slice(),
+    );
     put_node(cells, at, between.as_slice(), children);
 }
 

@@ -64,5 +64,5 @@ returns-clause-work g c = λ s.
     let rest_children : c.as_slice-4.result.now ≡ without (suc c.args.place) c.args.children.now = c.as_slice-4.ensures ∙ c.without_one-rest_children.ensures ∙ ap (λ (n : ℕ). without n c.args.children.now) place in
     c.write_parent.ensures.work
     ∙ ap (λ (v : Work). parent_work v c.args.head c.pair_at-pair.result.left_at c.args.at c.as_slice-3.result.now c.as_slice-4.result.now)
-      (c.put_cell.ensures.work ∙ ap (λ (v : Work). with_cell v c.pair_at-pair.result.right_at zero_cell) c.put_node.ensures.work)
+    (c.put_cell.ensures.work ∙ ap (λ (v : Work). with_cell v c.pair_at-pair.result.right_at zero_cell) c.put_node.ensures.work)
     ∙ (λ i. parent_work (with_cell (with_cell (work g.C.Cells c.args.cells.now) (ends.1 i) (cell_of (own i) (own_children i))) (ends.2 i) zero_cell) c.args.head (ends.1 i) c.args.at (rest i) (rest_children i))

@@ -48,14 +48,16 @@ returns-clause-right g c = λ s. let none : CellRef = record { number = 0 } in
     node_read (reading (work g.C.Cells c.args.cells.now)) s.right s.right_keys s.right_children s.right_node c.node_at-2.result (λ n is here. c.node_at-2.ensures n is (ap (λ (r : CellRef). (reading (work g.C.Cells c.args.cells.now)) r.number) (right_is (reading (work g.C.Cells c.args.cells.now)) c.args.versions.now c.args.children.now c.args.place s none) ∙ here))
 
 pub returns-clause-few : goal.returns-clause-few
-returns-clause-few g c = let none : CellRef = record { number = 0 } in
-    (node_few (reading (work g.C.Cells c.args.cells.now)) c.requires.left c.requires.left_keys c.requires.left_children c.requires.left_node c.node_at.result (λ n is here. c.node_at.ensures n is (ap (λ (r : CellRef). (reading (work g.C.Cells c.args.cells.now)) r.number) (left_is (reading (work g.C.Cells c.args.cells.now)) c.args.versions.now c.args.children.now c.args.place c.requires none) ∙ here)),
-     node_few (reading (work g.C.Cells c.args.cells.now)) c.requires.right c.requires.right_keys c.requires.right_children c.requires.right_node c.node_at-2.result (λ n is here. c.node_at-2.ensures n is (ap (λ (r : CellRef). (reading (work g.C.Cells c.args.cells.now)) r.number) (right_is (reading (work g.C.Cells c.args.cells.now)) c.args.versions.now c.args.children.now c.args.place c.requires none) ∙ here)))
+returns-clause-few g c = let none : CellRef = record { number = 0 } in (
+  node_few (reading (work g.C.Cells c.args.cells.now)) c.requires.left c.requires.left_keys c.requires.left_children c.requires.left_node c.node_at.result (λ n is here. c.node_at.ensures n is (ap (λ (r : CellRef). (reading (work g.C.Cells c.args.cells.now)) r.number) (left_is (reading (work g.C.Cells c.args.cells.now)) c.args.versions.now c.args.children.now c.args.place c.requires none) ∙ here)),
+  node_few (reading (work g.C.Cells c.args.cells.now)) c.requires.right c.requires.right_keys c.requires.right_children c.requires.right_node c.node_at-2.result (λ n is here. c.node_at-2.ensures n is (ap (λ (r : CellRef). (reading (work g.C.Cells c.args.cells.now)) r.number) (right_is (reading (work g.C.Cells c.args.cells.now)) c.args.versions.now c.args.children.now c.args.place c.requires none) ∙ here)),
+)
 
 pub returns-clause-cells : goal.returns-clause-cells
-returns-clause-cells g c = let none : CellRef = record { number = 0 } in
-    (subst (λ (r : CellRef). IsCell (reading (work g.C.Cells c.args.cells.now)) r.number) (sym (left_is (reading (work g.C.Cells c.args.cells.now)) c.args.versions.now c.args.children.now c.args.place c.requires none)) (node_cell (reading (work g.C.Cells c.args.cells.now)) c.requires.left c.requires.left_keys c.requires.left_children c.requires.left_node),
-     subst (λ (r : CellRef). IsCell (reading (work g.C.Cells c.args.cells.now)) r.number) (sym (right_is (reading (work g.C.Cells c.args.cells.now)) c.args.versions.now c.args.children.now c.args.place c.requires none)) (node_cell (reading (work g.C.Cells c.args.cells.now)) c.requires.right c.requires.right_keys c.requires.right_children c.requires.right_node))
+returns-clause-cells g c = let none : CellRef = record { number = 0 } in (
+  subst (λ (r : CellRef). IsCell (reading (work g.C.Cells c.args.cells.now)) r.number) (sym (left_is (reading (work g.C.Cells c.args.cells.now)) c.args.versions.now c.args.children.now c.args.place c.requires none)) (node_cell (reading (work g.C.Cells c.args.cells.now)) c.requires.left c.requires.left_keys c.requires.left_children c.requires.left_node),
+  subst (λ (r : CellRef). IsCell (reading (work g.C.Cells c.args.cells.now)) r.number) (sym (right_is (reading (work g.C.Cells c.args.cells.now)) c.args.versions.now c.args.children.now c.args.place c.requires none)) (node_cell (reading (work g.C.Cells c.args.cells.now)) c.requires.right c.requires.right_keys c.requires.right_children c.requires.right_node),
+)
 
 pub returns-clause-place : goal.returns-clause-place
 returns-clause-place g c = (key_below (reading (work g.C.Cells c.args.cells.now)) c.args.versions.now c.args.children.now c.args.place c.requires, child_below (reading (work g.C.Cells c.args.cells.now)) c.args.versions.now c.args.children.now c.args.place c.requires)

@@ -43,9 +43,9 @@ returns-clause-work g c = λ s.
     let kept_children : c.split_at-2.result.0.now ≡ take (length s.left_children - 1) s.left_children = c.split_at-2.ensures.front ∙ ap₂ take last lc in
     let own : c.as_slice.result.now ≡ s.between ∷ s.right_keys = c.as_slice.ensures ∙ c.with_one-own.ensures ∙ ap₂ (λ (b : CellRef) (ks : List CellRef). b ∷ ks) ends.0 rk in
     let moved : get_or c.split_at.result.1.now 0 no_ref ≡ get_or s.left_keys (length s.left_keys - 1) no_ref =
-        ap (λ (ks : List CellRef). get_or ks 0 no_ref) (c.split_at.ensures.back ∙ ap (λ (ks : List CellRef). drop (length ks - 1) ks) lk) ∙ first_dropped (length s.left_keys - 1) s.left_keys no_ref in
+    ap (λ (ks : List CellRef). get_or ks 0 no_ref) (c.split_at.ensures.back ∙ ap (λ (ks : List CellRef). drop (length ks - 1) ks) lk) ∙ first_dropped (length s.left_keys - 1) s.left_keys no_ref in
     let parent : c.as_slice-3.result.now ≡ replaced_at c.args.place (get_or s.left_keys (length s.left_keys - 1) no_ref) c.args.versions.now = c.as_slice-3.ensures ∙ c.with_other-between.ensures ∙ ap (λ (k : CellRef). replaced_at c.args.place k c.args.versions.now) moved in
     c.put_node-3.ensures.work
     ∙ ap (λ (v : Work). with_cell v c.args.at (cell_of c.as_slice-3.result.now c.args.children.now))
-      (c.put_node-2.ensures.work ∙ ap (λ (v : Work). with_cell v c.pair_at-pair.result.right_at (cell_of c.as_slice.result.now c.as_slice-2.result.now)) c.put_node.ensures.work)
+    (c.put_node-2.ensures.work ∙ ap (λ (v : Work). with_cell v c.pair_at-pair.result.right_at (cell_of c.as_slice.result.now c.as_slice-2.result.now)) c.put_node.ensures.work)
     ∙ (λ i. with_cell (with_cell (with_cell (work g.C.Cells c.args.cells.now) (ends.1 i) (cell_of (kept i) (kept_children i))) (ends.2 i) (cell_of (own i) (own_children i))) c.args.at (cell_of (parent i) c.args.children.now))

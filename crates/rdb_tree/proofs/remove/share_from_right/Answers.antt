@@ -60,5 +60,5 @@ returns-clause-work g c = λ s.
     let parent : c.as_slice-3.result.now ≡ replaced_at c.args.place (get_or s.right_keys 0 no_ref) c.args.versions.now = c.as_slice-3.ensures ∙ c.with_other-between.ensures ∙ ap (λ (k : CellRef). replaced_at c.args.place k c.args.versions.now) moved in
     c.put_node-3.ensures.work
     ∙ ap (λ (v : Work). with_cell v c.args.at (cell_of c.as_slice-3.result.now c.args.children.now))
-      (c.put_node-2.ensures.work ∙ ap (λ (v : Work). with_cell v c.pair_at-pair.result.left_at (cell_of c.as_slice.result.now c.as_slice-2.result.now)) c.put_node.ensures.work)
+    (c.put_node-2.ensures.work ∙ ap (λ (v : Work). with_cell v c.pair_at-pair.result.left_at (cell_of c.as_slice.result.now c.as_slice-2.result.now)) c.put_node.ensures.work)
     ∙ (λ i. with_cell (with_cell (with_cell (work g.C.Cells c.args.cells.now) (ends.2 i) (cell_of (kept i) (kept_children i))) (ends.1 i) (cell_of (own i) (own_children i))) c.args.at (cell_of (parent i) c.args.children.now))
