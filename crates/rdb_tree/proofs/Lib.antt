@@ -12,3 +12,4 @@ pub mod EqualLemmas
 pub mod WholeLemmas
 pub mod ChangeLemmas
 pub mod WayLemmas
+pub mod PartLemmas

@@ -108,8 +108,8 @@ module _ (said : Sayings) (image : Image) (near : CellRef → Bool) (whole : Tre
           rest = Rooted h child.0;
           sound = sound_child said image h t sound place child.0 child.1;
           root = sym (leads
-            ∙ ap (λ (cs : List CellRef). unwrap_or (slice_get cs place) no_ref) children
-            ∙ ap (λ (o : Option CellRef). unwrap_or o no_ref) (map_there (λ (c : BTree h). c.at) t.children place child.0 child.1));
+              ∙ ap (λ (cs : List CellRef). unwrap_or (slice_get cs place) no_ref) children
+              ∙ ap (λ (o : Option CellRef). unwrap_or o no_ref) (map_there (λ (c : BTree h). c.at) t.children place child.0 child.1));
           goes = record {
             steps = goes.steps ++ record { at = at; place = place } ∷ [];
             path = pushed ∙ ap (λ (ss : List Step). ss ++ record { at = at; place = place } ∷ []) goes.path ∙ append_assoc before goes.steps (record { at = at; place = place } ∷ []);

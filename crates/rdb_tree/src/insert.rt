@@ -7,7 +7,6 @@ ghost use Rattle.rdb_cells.specs.TreeFormat.{most_children};
 ghost use Rattle.rdb_cells.specs.Work.{work, reading};
 ghost use Rattle.rdb_tree.specs.Changes.{IsNodeAt, FitsKeys, CanTake, HasPlaces, IsLowest, PutsInto, IsNewRoot, split_work, raised_keys, raised_children, FitsPlace};
 ghost use Rattle.rdb_tree.specs.Trees.{most_refs};
-
 ghost use Rattle.rdb_cells.specs.Keys.{HasKey, says};
 ghost use Rattle.rdb_tree.specs.Nature.{IsRootedAt, path_places};
 ghost use Rattle.rdb_tree.specs.Order.{is_before};

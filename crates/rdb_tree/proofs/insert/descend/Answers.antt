@@ -9,6 +9,7 @@ use Rattle.rdb_tree.specs.Trees.{keys_in}
 use Rattle.rdb_tree.specs.declared.path.Step.{Step}
 use Rattle.rdb_tree.proofs.SoughtLemmas.{here_cell, here_few, here_keyed}
 use Rattle.rdb_tree.proofs.WayLemmas.{way_first, way_end, way_here, way_more}
+use Rattle.rdb_tree.proofs.PartLemmas.{parted}
 use Rattle.rdb_tree.proofs.insert.descend.Goals as goal
 
 pub returns-then-eq-clause-way : goal.returns-then-eq-clause-way
@@ -31,13 +32,14 @@ pub loop-preserved : goal.loop-preserved
 loop-preserved g c =
     let long = ap (length {A = Step}) c.push_reserved.ensures.items in
     let one = length-append c.loop.path.items (record { at = c.loop.at; place = c.count_before-place.result } ∷ []) in
-    let so_far = c.loop.invariant.2 in
-    ((λ whole rooted. way_more (says (g.K.Keys.meaning c.args.keys.now) (reading (work g.C.Cells c.args.cells.now))) (reading (work g.C.Cells c.args.cells.now)) (is_before (says (g.K.Keys.meaning c.args.keys.now) (reading (work g.C.Cells c.args.cells.now))) c.args.version) whole c.args.path.now.items c.loop.path.items c.loop.at c.loop.counter c.node_at-node.result c.count_before-place.result c.child_at-at.result c.push_reserved.new.self.items
-        c.node_at-node.ensures
-        (c.count_before-place.ensures ∙ ap (prefix_len (is_before (says (g.K.Keys.meaning c.args.keys.now) (reading (work g.C.Cells c.args.cells.now))) c.args.version)) c.keys_of.ensures)
-        c.child_at-at.ensures
-        c.push_reserved.ensures.items
-        (eqb-false c.loop.at.number 0 (sym c.eq.ensures ∙ c.if-eq.false))
-        (c.loop.invariant.0 whole rooted)),
-     c.push_reserved.ensures.capacity ∙ c.loop.invariant.1,
-     omega arith)
+    let so_far = c.loop.invariant.2 in (
+      (λ whole rooted. way_more (says (g.K.Keys.meaning c.args.keys.now) (reading (work g.C.Cells c.args.cells.now))) (reading (work g.C.Cells c.args.cells.now)) (is_before (says (g.K.Keys.meaning c.args.keys.now) (reading (work g.C.Cells c.args.cells.now))) c.args.version) whole c.args.path.now.items c.loop.path.items c.loop.at c.loop.counter c.node_at-node.result c.count_before-place.result c.child_at-at.result c.push_reserved.new.self.items
+          c.node_at-node.ensures
+          (c.count_before-place.ensures ∙ ap (prefix_len (is_before (says (g.K.Keys.meaning c.args.keys.now) (reading (work g.C.Cells c.args.cells.now))) c.args.version)) c.keys_of.ensures)
+          c.child_at-at.ensures
+          c.push_reserved.ensures.items
+          (eqb-false c.loop.at.number 0 (sym c.eq.ensures ∙ c.if-eq.false))
+          (c.loop.invariant.0 whole rooted)),
+      c.push_reserved.ensures.capacity ∙ c.loop.invariant.1,
+      omega arith,
+    )
