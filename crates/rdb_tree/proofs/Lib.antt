@@ -13,3 +13,5 @@ pub mod WholeLemmas
 pub mod ChangeLemmas
 pub mod WayLemmas
 pub mod PartLemmas
+pub mod ChildLemmas
+pub mod HalfLemmas
