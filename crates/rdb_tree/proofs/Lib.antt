@@ -15,3 +15,4 @@ pub mod WayLemmas
 pub mod PartLemmas
 pub mod ChildLemmas
 pub mod HalfLemmas
+pub mod PlaceLemmas
