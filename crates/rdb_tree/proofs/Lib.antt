@@ -16,3 +16,4 @@ pub mod PartLemmas
 pub mod ChildLemmas
 pub mod HalfLemmas
 pub mod PlaceLemmas
+pub mod VersionLemmas

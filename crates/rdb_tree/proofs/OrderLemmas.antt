@@ -37,7 +37,7 @@ not_gt Less e = refl
 not_gt Equal e = refl
 not_gt Greater e = sym e
 
-is_less : (o : Ordering) → is_lt o ≡ true → o ≡ Less
+pub is_less : (o : Ordering) → is_lt o ≡ true → o ≡ Less
 is_less Less e = refl
 is_less Equal e = absurd (false≢true e)
 is_less Greater e = absurd (false≢true e)
