@@ -17,3 +17,4 @@ pub mod ChildLemmas
 pub mod HalfLemmas
 pub mod PlaceLemmas
 pub mod VersionLemmas
+pub mod FamilyLemmas
