@@ -18,3 +18,4 @@ pub mod HalfLemmas
 pub mod PlaceLemmas
 pub mod VersionLemmas
 pub mod FamilyLemmas
+pub mod GrownLemmas
