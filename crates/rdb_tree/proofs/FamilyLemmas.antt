@@ -26,9 +26,10 @@ module _ (before after : Image) (h : ℕ) where
       let parts = once_parts (cells h t) (flat_map (cells h) ts) once in
       (here, all_still ts (λ m within. same m (among_back (cells h t) (flat_map (cells h) ts) m within) (λ own. parts.2 m (subst (λ (x : BTree h). IsAmong (cells h x) m) (sym is) own) within)) stand.1)
   others_still (t ∷ ts) (suc n) c d at once same stand here =
-      let parts = once_parts (cells h t) (flat_map (cells h) ts) once in
-      (still_stands before after h t (λ m within. same m (among_front (cells h t) (flat_map (cells h) ts) m within) (λ own. parts.2 m within (own_cells h ts n c at m own))) stand.0,
-       others_still ts n c d at parts.1 (λ m within. same m (among_back (cells h t) (flat_map (cells h) ts) m within)) stand.1 here)
+      let parts = once_parts (cells h t) (flat_map (cells h) ts) once in (
+        still_stands before after h t (λ m within. same m (among_front (cells h t) (flat_map (cells h) ts) m within) (λ own. parts.2 m within (own_cells h ts n c at m own))) stand.0,
+        others_still ts n c d at parts.1 (λ m within. same m (among_back (cells h t) (flat_map (cells h) ts) m within)) stand.1 here,
+      )
 
 module _ (h : ℕ) (fresh : List ℕ) where
   -- the cells with another tree there are those of before, or fresh

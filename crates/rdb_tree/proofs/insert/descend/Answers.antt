@@ -9,7 +9,6 @@ use Rattle.rdb_tree.specs.Trees.{keys_in}
 use Rattle.rdb_tree.specs.declared.path.Step.{Step}
 use Rattle.rdb_tree.proofs.SoughtLemmas.{here_cell, here_few, here_keyed}
 use Rattle.rdb_tree.proofs.WayLemmas.{way_first, way_end, way_here, way_more}
-use Rattle.rdb_tree.proofs.GrownLemmas.{grown_up}
 use Rattle.rdb_tree.proofs.insert.descend.Goals as goal
 
 pub returns-then-eq-clause-way : goal.returns-then-eq-clause-way
