@@ -18,4 +18,9 @@ pub mod HalfLemmas
 pub mod PlaceLemmas
 pub mod VersionLemmas
 pub mod FamilyLemmas
+pub mod MiddleLemmas
+pub mod ComingLemmas
 pub mod GrownLemmas
+pub mod RisenLemmas
+pub mod AccountLemmas
+pub mod ClimbLemmas

@@ -5,7 +5,8 @@ use Rattle.std.specs.List.{prefix_len}
 use Rattle.rdb_pages.specs.declared.cell.CellRef.{CellRef}
 use Rattle.rdb_tree.specs.Trees.{Each, woven}
 use Rattle.rdb_tree.proofs.PartLemmas.{IsParted, parted}
-use Rattle.rdb_tree.proofs.SeekLemmas.{IsCut, all_before, cut_back}
+use Rattle.rdb_tree.proofs.SeekLemmas.{all_before, cut_back}
+use Rattle.rdb_tree.specs.Ways.{IsCut}
 use Rattle.rdb_tree.proofs.WovenLemmas.{each_both}
 
 -- one part more in front

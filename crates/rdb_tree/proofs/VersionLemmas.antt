@@ -13,7 +13,7 @@ use Rattle.rdb_cells.proofs.VersionOrder.{version_order_total, version_level}
 use Rattle.rdb_tree.specs.Order.{IsBefore, AreAscending, is_before, order_of_both}
 use Rattle.rdb_tree.specs.Trees.{Each}
 use Rattle.rdb_tree.proofs.OrderLemmas.{is_cut, sooner, is_less}
-use Rattle.rdb_tree.proofs.SeekLemmas.{IsCut}
+use Rattle.rdb_tree.specs.Ways.{IsCut}
 use Rattle.rdb_tree.proofs.WovenLemmas.{each_both, each_front, each_back}
 
 some_version : (o : Option Version) → IsSome o → (v : Version) × (o ≡ Some v)
