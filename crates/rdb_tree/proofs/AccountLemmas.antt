@@ -68,30 +68,25 @@ module _ (before mid : Work) (own fresh : List ℕ) (levels : ℕ) (account : Is
 
   -- the lowest cell is taken and written, and another one of the tree
   module _ (right : CellRef) (behind : Cell) (at : CellRef) (cell : Cell) (lowest : IsLowest mid right) (inside : IsAmong own at.number) (spent : ¬ IsLeft before at.number) where
-    one : Work
+    abbrev pub one : Work
     one = with_cell (with_taken mid right) right behind
 
-    two : Work
+    abbrev pub two : Work
     two = with_cell (with_cell (with_taken mid right) right behind) at cell
 
     still_spent : ¬ IsLeft one at.number
-    unfolding one
     still_spent left = spent ((account.lowest.left at.number).0 ((took_one mid right behind lowest).no_more at.number left)).0
 
     then_none : TakesNone one two
-    unfolding one two
     then_none = put_takes_none one at cell still_spent
 
     took : TakesLowest mid two (right.number ∷ [])
-    unfolding one two
     took = lowest_then (right.number ∷ []) [] mid one two (took_lowest mid right behind lowest) (lowest_none one two [] then_none (λ n within. absurd within))
 
     took_most : TakesAtMost 1 mid two
-    unfolding one two
     took_most = at_most_then 1 0 mid one two (took_one mid right behind lowest) (none_at_most one two then_none)
 
     pub account_split : IsAccount before two own (fresh ++ right.number ∷ []) (suc levels)
-    unfolding one two
     account_split =
         let few = account.few in
         let places = account.places in

@@ -8,10 +8,12 @@ use Rattle.rdb_pages.specs.Pages.{zero_cell}
 use Rattle.rdb_cells.specs.declared.kind.Kind.TheVariants as kind
 use Rattle.rdb_cells.specs.Images.{Image, Writes}
 use Rattle.rdb_cells.specs.Links.{IsAmong, AreDisjoint}
-use Rattle.rdb_cells.specs.Work.{Work, reading, IsLeft}
+use Rattle.rdb_cells.specs.Parts.{tree_part}
+use Rattle.rdb_cells.specs.Work.{Work, reading, IsLeft, HasLeft}
+use Rattle.rdb_cells.proofs.IndexLemmas.{fewer_than}
 use Rattle.rdb_cells.proofs.PlainLemmas.{one_kind}
-use Rattle.rdb_cells.proofs.WorkLemmas.{put_work, take_work, put_reads, left_blank}
-use Rattle.rdb_tree.specs.Changes.{cell_of, with_cell, with_taken, split_work, raised_keys, raised_children, IsNodeAt, PutsInto, IsPutInto, IsSplit}
+use Rattle.rdb_cells.proofs.WorkLemmas.{put_work, take_work, put_reads, left_blank, one_left}
+use Rattle.rdb_tree.specs.Changes.{cell_of, with_cell, with_taken, split_work, raised_keys, raised_children, IsNodeAt, CanTake, HasPlaces, PutsInto, IsPutInto, IsSplit}
 use Rattle.rdb_tree.specs.Growth.{IsGrown, HasGrown, IsRaised, IsAccount, IsWayDown, IsUnderway, IsSettled, IsPutUpTo}
 use Rattle.rdb_tree.specs.TreeLaws.{all_nodes}
 use Rattle.rdb_tree.specs.Trees.{Node, BTree, Below, Tree, Empty, Rooted, levels_of, versions, cells, cells_of, roots, Stands, IsShaped, TreeStands}
@@ -85,7 +87,7 @@ module _ (before : Work) (near : CellRef → Bool) (version : CellRef) where
   }
 
   module _ (H : ℕ) (T : BTree H) (path : List Step) (way : IsWayDown (reading before) near (Rooted H T) path) (mid : Work) (steps : List Step) (step : Step) (raised : Raised) (under : IsUnderway before mid near version (Rooted H T) (steps ++ step ∷ []) raised) where
-    last : IsLastStep near (Rooted H T) steps step under.rest
+    pub last : IsLastStep near (Rooted H T) steps step under.rest
     last = leads_back near (Rooted H T) steps step under.rest under.leads
 
     part : IsPart (reading before) near (cells H T) last.h last.t
@@ -113,6 +115,27 @@ module _ (before : Work) (near : CellRef → Bool) (version : CellRef) where
 
     pub place_here : step.place ≤ length last.t.keys
     place_here = let same = last.place in let few = prefix_len-le-length near last.t.keys in omega arith
+
+    -- there are cells and places left
+    few_fresh : length under.fresh ≤ 10
+    few_fresh =
+        let few = account.few in
+        let low = lower near H T steps last.h last.t last.leads in
+        let levels = way.levels in
+        omega arith
+
+    pub can_take : HasLeft before tree_part → CanTake mid
+    can_take left =
+        let few = few_fresh in
+        one_left mid (under.account.most.enough 1 (fewer_than before (1 + length under.fresh) 12 (omega arith) left))
+
+    pub has_places : HasPlaces before 24 → HasPlaces mid 2
+    has_places room =
+        let places = account.places in
+        let low = lower near H T steps last.h last.t last.leads in
+        let levels = way.levels in
+        let same = under.account.goes_on.room in
+        omega arith
 
     abbrev keys_now : List CellRef
     keys_now = raised_keys step.place raised.key last.t.keys
@@ -169,8 +192,20 @@ module _ (before : Work) (near : CellRef → Bool) (version : CellRef) where
         let back = leads_back near Empty steps step under.rest under.leads in
         absurd (no_way near steps back.h back.t back.leads)
     climb_node (Rooted H T) way under =
-        let back = leads_back near (Rooted H T) steps step under.rest under.leads in
+        let back = last H T path way mid steps step raised under in
         (back.t.keys, roots back.h back.t.children, node_here H T path way mid steps step raised under, place_here H T path way mid steps step raised under)
+
+    pub climb_free : (whole : Tree) → IsWayDown (reading before) near whole path → IsUnderway before mid near version whole (steps ++ step ∷ []) raised → HasLeft before tree_part → CanTake mid
+    climb_free Empty way under left =
+        let back = leads_back near Empty steps step under.rest under.leads in
+        absurd (no_way near steps back.h back.t back.leads)
+    climb_free (Rooted H T) way under left = can_take H T path way mid steps step raised under left
+
+    pub climb_places : (whole : Tree) → IsWayDown (reading before) near whole path → IsUnderway before mid near version whole (steps ++ step ∷ []) raised → HasPlaces before 24 → HasPlaces mid 2
+    climb_places Empty way under room =
+        let back = leads_back near Empty steps step under.rest under.leads in
+        absurd (no_way near steps back.h back.t back.leads)
+    climb_places (Rooted H T) way under room = has_places H T path way mid steps step raised under room
 
     pub climb_step : (whole : Tree) → IsWayDown (reading before) near whole path → IsUnderway before mid near version whole (steps ++ step ∷ []) raised → (after : Work) (result : Option Raised) →
         ((keys children : List CellRef) → IsNodeAt (reading mid) step.at keys children → PutsInto mid after step.at (raised_keys step.place raised.key keys) (raised_children step.place raised.right children) result) →
@@ -179,5 +214,5 @@ module _ (before : Work) (near : CellRef → Bool) (version : CellRef) where
         let back = leads_back near Empty steps step under.rest under.leads in
         absurd (no_way near steps back.h back.t back.leads)
     climb_step (Rooted H T) way under after result puts =
-        let back = leads_back near (Rooted H T) steps step under.rest under.leads in
+        let back = last H T path way mid steps step raised under in
         stepped H T path way mid steps step raised under after result (puts back.t.keys (roots back.h back.t.children) (node_here H T path way mid steps step raised under))

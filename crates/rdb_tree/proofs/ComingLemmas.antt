@@ -50,12 +50,12 @@ module _ (near : CellRef → Bool) (version : CellRef) where
   cut_keys (suc n) [] same cut = (tt, tt)
   cut_keys zero (k ∷ ks) same cut = by_test (near k) refl same
     where
-      by_test : (b : Bool) → near k ≡ b → 0 ≡ cond b (1 + prefix_len near ks) 0 → Unit {0} × (near k ≡ false) × Each (λ r. near r ≡ false) ks
+      by_test : (b : Bool) → near k ≡ b → 0 ≡ cond b (1 + prefix_len near ks) 0 → Each (λ r. near r ≡ true) [] × Each (λ r. near r ≡ false) (k ∷ ks)
       by_test true is none = absurd (omega arith)
-      by_test false far none = (tt, far, cut.0 far)
+      by_test false far none = (tt, (far, cut.0 far))
   cut_keys (suc n) (k ∷ ks) same cut = by_test (near k) refl same (λ inner. cut_keys n ks inner cut.1)
     where
-      by_test : (b : Bool) → near k ≡ b → suc n ≡ cond b (1 + prefix_len near ks) 0 → (n ≡ prefix_len near ks → Each (λ r. near r ≡ true) (take n ks) × Each (λ r. near r ≡ false) (drop n ks)) → ((near k ≡ true) × Each (λ r. near r ≡ true) (take n ks)) × Each (λ r. near r ≡ false) (drop n ks)
+      by_test : (b : Bool) → near k ≡ b → suc n ≡ cond b (1 + prefix_len near ks) 0 → (n ≡ prefix_len near ks → Each (λ r. near r ≡ true) (take n ks) × Each (λ r. near r ≡ false) (drop n ks)) → Each (λ r. near r ≡ true) (k ∷ take n ks) × Each (λ r. near r ≡ false) (drop n ks)
       by_test true is one inner = let rest = inner (omega arith) in ((is, rest.0), rest.1)
       by_test false is one inner = absurd (omega arith)
 

@@ -1,4 +1,4 @@
-use Rattle.std.proofs.Common.{◌≡◌, Bool}
+use Rattle.std.proofs.Common.{◌≡◌, Bool, length}
 use Rattle.rdb_pages.specs.declared.cell.CellRef.{CellRef}
 use Rattle.rdb_cells.specs.Work.{work, reading}
 use Rattle.rdb_tree.specs.Growth.{IsWayDown, IsUnderway}
@@ -11,3 +11,6 @@ invariant-loop-step g l =
     IsUnderway (work g.C.Cells l.initial.cells) (work g.C.Cells l.cells) near l.fn.version whole l.path.items l.raised)
     × (l.cells.cells ≡ l.initial.cells.cells)
     × (l.cells.class ≡ l.initial.cells.class)
+
+abbrev pub decreases-loop-step : goal.decreases-loop-step
+decreases-loop-step g l = length l.path.items
