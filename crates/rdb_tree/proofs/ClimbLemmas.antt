@@ -66,7 +66,7 @@ lower near zero t (x ∷ xs) k s leads = absurd (no_way near xs k s leads.2)
 lower near (suc h) t (x ∷ xs) k s leads = let below = lower near h leads.2.0 xs k s leads.2.2 in omega arith
 
 module _ (before : Work) (near : CellRef → Bool) (version : CellRef) where
-  node_spent : (whole : Tree) → TreeStands (reading before) whole → (n : ℕ) → IsAmong (cells_of whole) n → ¬ IsLeft before n
+  pub node_spent : (whole : Tree) → TreeStands (reading before) whole → (n : ℕ) → IsAmong (cells_of whole) n → ¬ IsLeft before n
   node_spent Empty stands n within left = within
   node_spent (Rooted h t) stands n within left =
       let same = one_kind (reading before) kind.TreeNode kind.Free n (all_nodes (reading before) h t n stands within) (zero_cell, (left_blank before n left).zero, refl) in

@@ -24,3 +24,4 @@ pub mod GrownLemmas
 pub mod RisenLemmas
 pub mod AccountLemmas
 pub mod ClimbLemmas
+pub mod RootLemmas

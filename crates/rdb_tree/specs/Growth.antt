@@ -1,13 +1,15 @@
 -- A version comes into a tree, level by level on the way up: a tree that has grown in its place, and one that was split.
 use Rattle.std.specs.Prelude.{◌≡◌, ◌≤◌, ◌+◌, ◌*◌, ◌⊎◌, ℕ, List, [], ◌∷◌, ◌++◌, length, Option, Some, None, Bool, true, false}
 use Rattle.rdb_pages.specs.declared.cell.CellRef.{CellRef}
+use Rattle.rdb_pages.specs.Pages.{zero_cell}
+use Rattle.rdb_cells.specs.HeadFormat.{index_head_cell, rooted_head}
 use Rattle.rdb_cells.specs.Images.{Image}
 use Rattle.rdb_cells.specs.Links.{IsAmong, AreOnce, AreDisjoint}
 use Rattle.rdb_cells.specs.Records.{content}
 use Rattle.rdb_cells.specs.References.{IsPageCell}
 use Rattle.rdb_cells.specs.Work.{Work, reading, IsLeft, GoesOn, TakesAtMost, TakesLowest}
 use Rattle.rdb_tree.specs.Nature.{most_levels}
-use Rattle.rdb_tree.specs.Trees.{Node, BTree, Each, Tree, Empty, Rooted, levels_of, versions, versions_of, cells, cells_of, Stands, TreeStands, IsShaped, IsBTree, least_keys}
+use Rattle.rdb_tree.specs.Trees.{Node, BTree, Each, Tree, Empty, Rooted, root_of, levels_of, versions, versions_of, cells, cells_of, Stands, TreeStands, IsShaped, IsBTree, least_keys}
 use Rattle.rdb_tree.specs.Ways.{IsCut, Leads}
 use Rattle.rdb_tree.specs.declared.insert.Raised.{Raised}
 use Rattle.rdb_tree.specs.declared.path.Step.{Step}
@@ -109,3 +111,29 @@ pub record IsSettled (before after : Work) (near : CellRef → Bool) (version : 
 abbrev pub IsPutUpTo : Work → Work → (CellRef → Bool) → CellRef → Tree → List Step → Option Raised → Type 0
 IsPutUpTo before after near version whole steps None = IsSettled before after near version whole
 IsPutUpTo before after near version whole steps (Some raised) = IsUnderway before after near version whole steps raised
+
+-- The tree that a head leads to has become another one: its cells are those of before that are needed still and the fresh ones,
+-- each once; the others are zero now, and nothing else was written.
+pub record IsTreeChanged (before after : Work) (head : ℕ) (fresh : List ℕ) (was now : Tree) : Type 0 where
+  pub leads : reading after head ≡ Some (index_head_cell (rooted_head (root_of now)))
+  pub stands : TreeStands (reading after) now
+  pub shape : IsBTree now
+  pub more : (n : ℕ) → IsAmong (cells_of now) n → IsAmong (cells_of was) n ⊎ IsAmong fresh n
+  pub gone : (n : ℕ) → IsAmong (cells_of was) n → IsAmong (cells_of now) n ⊎ (reading after n ≡ Some zero_cell)
+  pub used : (n : ℕ) → IsAmong fresh n → IsAmong (cells_of now) n
+  pub once : AreOnce (cells_of now)
+  pub elsewhere : StaysBeside (reading before) (reading after) (head ∷ cells_of was) fresh
+  pub lowest : TakesLowest before after fresh
+  pub left : (n : ℕ) → IsAmong fresh n → IsLeft before n
+  pub says : (n : ℕ) → (¬ IsAmong (head ∷ cells_of was) n) → (¬ IsAmong fresh n) → content after.pairs n ≡ content before.pairs n
+  pub goes_on : GoesOn before after
+
+-- a version came to its place in the tree of a head, at the cost of a cell a level at most, and of two planned
+pub record IsTreePut (before after : Work) (near : CellRef → Bool) (version : CellRef) (head : ℕ) (was : Tree) : Type 0 where
+  pub fresh : List ℕ
+  pub now : Tree
+  pub changed : IsTreeChanged before after head fresh was now
+  pub comes : ComesTo near version (versions_of was) (versions_of now)
+  pub most : TakesAtMost (length fresh) before after
+  pub few : length fresh ≤ most_levels + 1
+  pub places : length after.pairs ≤ length before.pairs + 2 * (most_levels + 1)

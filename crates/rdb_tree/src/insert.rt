@@ -9,9 +9,9 @@ ghost use Rattle.rdb_cells.specs.Work.{work, reading, HasLeft};
 ghost use Rattle.rdb_tree.specs.Changes.{IsNodeAt, FitsKeys, CanTake, HasPlaces, IsLowest, PutsInto, IsNewRoot, split_work, raised_keys, raised_children, FitsPlace};
 ghost use Rattle.rdb_tree.specs.Trees.{most_refs};
 ghost use Rattle.rdb_cells.specs.Keys.{HasKey, says};
-ghost use Rattle.rdb_tree.specs.Nature.{IsRootedAt, path_places};
+ghost use Rattle.rdb_tree.specs.Nature.{IsTree, IsRootedAt, path_places};
 ghost use Rattle.rdb_tree.specs.Order.{is_before};
-ghost use Rattle.rdb_tree.specs.Growth.{IsWayDown, IsPutUpTo};
+ghost use Rattle.rdb_tree.specs.Growth.{IsWayDown, IsPutUpTo, IsTreePut};
 ghost use Rattle.rdb_tree.specs.Ways.{GoesOnTo};
 ghost use Rattle.rdb_tree.specs.Trees.{Tree as TreeValue, Empty};
 
@@ -39,19 +39,29 @@ pub(crate) fn put<C: Cells, K: Keys>(
     cells: &mut Overlay<C>,
     keys: &K,
     version: CellRef,
-) {
+)
+    requires standing { (listed : _) × (nodes : _)
+        × IsTree tree.now.head.number (says (K.meaning keys.now) (reading (work C.Cells cells.old))) (reading (work C.Cells cells.old)) listed nodes }
+    requires version { HasKey (K.meaning keys.now) (reading (work C.Cells cells.old)) version }
+    requires free { HasLeft (work C.Cells cells.old) tree_part }
+    requires places { HasPlaces (work C.Cells cells.old) 24 }
+    ensures put { (listed : _) (nodes : _) →
+        (is : IsTree tree.now.head.number (says (K.meaning keys.now) (reading (work C.Cells cells.old))) (reading (work C.Cells cells.old)) listed nodes) →
+        IsTreePut (work C.Cells cells.old) (work C.Cells cells.new)
+        (is_before (says (K.meaning keys.now) (reading (work C.Cells cells.old))) version) version tree.now.head.number is.tree }
+    ensures below { (cells.new.cells ≡ cells.old.cells) × (cells.new.class ≡ cells.old.class) }
+{
     let root = IndexHead::root_in(cells.planned(tree.head), 0);
     let mut path = Path::new(tree.alloc);
-    if root != NONE {
-        descend(cells, keys, version, root, &mut path);
+    descend(&*cells, keys, version, root, &mut path);
+    let Some(raised) = climb(cells, &mut path, version) else {
+        return;
+    };
+    if root == NONE {
+        grow(cells, tree.head, raised.key, &[]);
+        return;
     }
-    if let Some(raised) = climb(cells, &mut path, version) {
-        if root == NONE {
-            grow(cells, tree.head, raised.key, &[]);
-        } else {
-            grow(cells, tree.head, raised.key, &[root, raised.right]);
-        }
-    }
+    grow(cells, tree.head, raised.key, &[root, raised.right]);
 }
 
 /// Puts the version into the leaf at the end of a path, and what is raised into the nodes above it. Returns what is raised
