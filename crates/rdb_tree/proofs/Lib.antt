@@ -25,3 +25,4 @@ pub mod RisenLemmas
 pub mod AccountLemmas
 pub mod ClimbLemmas
 pub mod RootLemmas
+pub mod PutLemmas

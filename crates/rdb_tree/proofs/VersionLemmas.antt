@@ -16,7 +16,7 @@ use Rattle.rdb_tree.proofs.OrderLemmas.{is_cut, sooner, is_less}
 use Rattle.rdb_tree.specs.Ways.{IsCut}
 use Rattle.rdb_tree.proofs.WovenLemmas.{each_both, each_front, each_back}
 
-some_version : (o : Option Version) → IsSome o → (v : Version) × (o ≡ Some v)
+pub some_version : (o : Option Version) → IsSome o → (v : Version) × (o ≡ Some v)
 some_version None some = absurd (false≢true some)
 some_version (Some v) some = (v, refl)
 
