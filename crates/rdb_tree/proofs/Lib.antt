@@ -26,3 +26,5 @@ pub mod AccountLemmas
 pub mod ClimbLemmas
 pub mod RootLemmas
 pub mod PutLemmas
+pub mod ChangedLemmas
+pub mod PutLaws
