@@ -28,3 +28,6 @@ pub mod RootLemmas
 pub mod PutLemmas
 pub mod ChangedLemmas
 pub mod PutLaws
+pub mod PairLemmas
+pub mod SiblingLemmas
+pub mod MendLemmas

@@ -7,3 +7,4 @@ pub mod TreeLaws
 pub mod KeyTable
 pub mod Ways
 pub mod Growth
+pub mod Losses
