@@ -30,4 +30,5 @@ pub mod ChangedLemmas
 pub mod PutLaws
 pub mod PairLemmas
 pub mod SiblingLemmas
+pub mod ShiftLemmas
 pub mod MendLemmas
