@@ -32,3 +32,4 @@ pub mod PairLemmas
 pub mod SiblingLemmas
 pub mod ShiftLemmas
 pub mod MendLemmas
+pub mod PairEnds

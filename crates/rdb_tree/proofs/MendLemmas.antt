@@ -86,56 +86,56 @@ pub record IsPairAt (image : Image) (at : CellRef) (place h : ℕ) (t : BTree (s
   pub left_shape : IsShaped h 2 x
   pub right_shape : IsShaped h 2 y
 
-there_front : {X : Type 0} (xs : List X) (x : X) (ys : List X) (n : ℕ) → length xs ≡ n → slice_get (xs ++ x ∷ ys) n ≡ Some x
+pub there_front : {X : Type 0} (xs : List X) (x : X) (ys : List X) (n : ℕ) → length xs ≡ n → slice_get (xs ++ x ∷ ys) n ≡ Some x
 there_front [] x ys zero same = refl
 there_front [] x ys (suc n) same = absurd (omega arith)
 there_front (y ∷ xs) x ys zero same = absurd (omega arith)
 there_front (y ∷ xs) x ys (suc n) same = there_front xs x ys n (omega arith)
 
-there_next : {X : Type 0} (xs : List X) (x y : X) (ys : List X) (n : ℕ) → length xs ≡ n → slice_get (xs ++ x ∷ y ∷ ys) (suc n) ≡ Some y
+pub there_next : {X : Type 0} (xs : List X) (x y : X) (ys : List X) (n : ℕ) → length xs ≡ n → slice_get (xs ++ x ∷ y ∷ ys) (suc n) ≡ Some y
 there_next [] x y ys zero same = refl
 there_next [] x y ys (suc n) same = absurd (omega arith)
 there_next (z ∷ xs) x y ys zero same = absurd (omega arith)
 there_next (z ∷ xs) x y ys (suc n) same = there_next xs x y ys n (omega arith)
 
-replaced_front : (xs : List CellRef) (x z : CellRef) (ys : List CellRef) (n : ℕ) → length xs ≡ n → replaced_at n z (xs ++ x ∷ ys) ≡ xs ++ z ∷ ys
+pub replaced_front : (xs : List CellRef) (x z : CellRef) (ys : List CellRef) (n : ℕ) → length xs ≡ n → replaced_at n z (xs ++ x ∷ ys) ≡ xs ++ z ∷ ys
 replaced_front [] x z ys zero same = refl
 replaced_front [] x z ys (suc n) same = absurd (omega arith)
 replaced_front (y ∷ xs) x z ys zero same = absurd (omega arith)
 replaced_front (y ∷ xs) x z ys (suc n) same = ap (λ (rs : List CellRef). y ∷ rs) (replaced_front xs x z ys n (omega arith))
 
-without_front : (xs : List CellRef) (x : CellRef) (ys : List CellRef) (n : ℕ) → length xs ≡ n → without n (xs ++ x ∷ ys) ≡ xs ++ ys
+pub without_front : (xs : List CellRef) (x : CellRef) (ys : List CellRef) (n : ℕ) → length xs ≡ n → without n (xs ++ x ∷ ys) ≡ xs ++ ys
 without_front [] x ys zero same = refl
 without_front [] x ys (suc n) same = absurd (omega arith)
 without_front (y ∷ xs) x ys zero same = absurd (omega arith)
 without_front (y ∷ xs) x ys (suc n) same = ap (λ (rs : List CellRef). y ∷ rs) (without_front xs x ys n (omega arith))
 
-without_next : (xs : List CellRef) (x y : CellRef) (ys : List CellRef) (n : ℕ) → length xs ≡ n → without (suc n) (xs ++ x ∷ y ∷ ys) ≡ xs ++ x ∷ ys
+pub without_next : (xs : List CellRef) (x y : CellRef) (ys : List CellRef) (n : ℕ) → length xs ≡ n → without (suc n) (xs ++ x ∷ y ∷ ys) ≡ xs ++ x ∷ ys
 without_next [] x y ys zero same = refl
 without_next [] x y ys (suc n) same = absurd (omega arith)
 without_next (z ∷ xs) x y ys zero same = absurd (omega arith)
 without_next (z ∷ xs) x y ys (suc n) same = ap (λ (rs : List CellRef). z ∷ rs) (without_next xs x y ys n (omega arith))
 
 -- the roots of siblings that share
-left_less_roots : (h : ℕ) (x : BTree h) → roots h (left_less h x).children ≡ take (length (roots h x.children) - 1) (roots h x.children)
+pub left_less_roots : (h : ℕ) (x : BTree h) → roots h (left_less h x).children ≡ take (length (roots h x.children) - 1) (roots h x.children)
 left_less_roots zero x = refl
 left_less_roots (suc h) x = map_take (λ (c : BTree h). c.at) (length x.children - 1) x.children ∙ ap (λ (n : ℕ). take (n - 1) (roots (suc h) x.children)) (sym (length_map (λ (c : BTree h). c.at) x.children))
 
-right_more_roots : (h : ℕ) (x : BTree h) (k : CellRef) (y : BTree h) → roots h (right_more h x k y).children ≡ drop (length (roots h x.children) - 1) (roots h x.children) ++ roots h y.children
+pub right_more_roots : (h : ℕ) (x : BTree h) (k : CellRef) (y : BTree h) → roots h (right_more h x k y).children ≡ drop (length (roots h x.children) - 1) (roots h x.children) ++ roots h y.children
 right_more_roots zero x k y = refl
 right_more_roots (suc h) x k y =
     map-append (λ (c : BTree h). c.at) (drop (length x.children - 1) x.children) y.children
     ∙ ap (λ (rs : List CellRef). rs ++ roots (suc h) y.children) (map_drop (λ (c : BTree h). c.at) (length x.children - 1) x.children ∙ ap (λ (n : ℕ). drop (n - 1) (roots (suc h) x.children)) (sym (length_map (λ (c : BTree h). c.at) x.children)))
 
-right_less_roots : (h : ℕ) (y : BTree h) → roots h (right_less h y).children ≡ drop 1 (roots h y.children)
+pub right_less_roots : (h : ℕ) (y : BTree h) → roots h (right_less h y).children ≡ drop 1 (roots h y.children)
 right_less_roots zero y = refl
 right_less_roots (suc h) y = map_drop (λ (c : BTree h). c.at) 1 y.children
 
-left_more_roots : (h : ℕ) (x : BTree h) (k : CellRef) (y : BTree h) → roots h (left_more h x k y).children ≡ roots h x.children ++ take 1 (roots h y.children)
+pub left_more_roots : (h : ℕ) (x : BTree h) (k : CellRef) (y : BTree h) → roots h (left_more h x k y).children ≡ roots h x.children ++ take 1 (roots h y.children)
 left_more_roots zero x k y = refl
 left_more_roots (suc h) x k y = map-append (λ (c : BTree h). c.at) x.children (take 1 y.children) ∙ ap (λ (rs : List CellRef). roots (suc h) x.children ++ rs) (map_take (λ (c : BTree h). c.at) 1 y.children)
 
-joined_roots : (h : ℕ) (x : BTree h) (k : CellRef) (y : BTree h) → roots h (both_joined h x k y).children ≡ roots h x.children ++ roots h y.children
+pub joined_roots : (h : ℕ) (x : BTree h) (k : CellRef) (y : BTree h) → roots h (both_joined h x k y).children ≡ roots h x.children ++ roots h y.children
 joined_roots zero x k y = refl
 joined_roots (suc h) x k y = map-append (λ (c : BTree h). c.at) x.children y.children
 
@@ -148,33 +148,33 @@ pub stands_of : (h : ℕ) (b : Image) (t : BTree h) → b t.at.number ≡ Some (
 stands_of zero b t here below = here
 stands_of (suc h) b t here below = (here, below)
 
-below_stands : (h : ℕ) (a b : Image) (t : BTree h) → Stands h a t → AreOnce (cells h t) → ((n : ℕ) → IsAmong (cells h t) n → n ≢ t.at.number → b n ≡ a n) → BelowStands h b t
+pub below_stands : (h : ℕ) (a b : Image) (t : BTree h) → Stands h a t → AreOnce (cells h t) → ((n : ℕ) → IsAmong (cells h t) n → n ≢ t.at.number → b n ≡ a n) → BelowStands h b t
 below_stands zero a b t stands once same = tt
 below_stands (suc h) a b t stands once same = all_still a b h t.children (λ n within. same n (inr within) (λ is. once.0 (subst (IsAmong (flat_map (cells h) t.children)) is within))) stands.1
 
-left_below : (h : ℕ) (b : Image) (x : BTree h) → BelowStands h b x → BelowStands h b (left_less h x)
+pub left_below : (h : ℕ) (b : Image) (x : BTree h) → BelowStands h b x → BelowStands h b (left_less h x)
 left_below zero b x below = tt
 left_below (suc h) b x below = each_take (Stands h b) (length x.children - 1) x.children below
 
-right_more_below : (h : ℕ) (b : Image) (x : BTree h) (k : CellRef) (y : BTree h) → BelowStands h b x → BelowStands h b y → BelowStands h b (right_more h x k y)
+pub right_more_below : (h : ℕ) (b : Image) (x : BTree h) (k : CellRef) (y : BTree h) → BelowStands h b x → BelowStands h b y → BelowStands h b (right_more h x k y)
 right_more_below zero b x k y below also = tt
 right_more_below (suc h) b x k y below also = each_both (Stands h b) (drop (length x.children - 1) x.children) y.children (each_drop (Stands h b) (length x.children - 1) x.children below) also
 
-right_below : (h : ℕ) (b : Image) (y : BTree h) → BelowStands h b y → BelowStands h b (right_less h y)
+pub right_below : (h : ℕ) (b : Image) (y : BTree h) → BelowStands h b y → BelowStands h b (right_less h y)
 right_below zero b y below = tt
 right_below (suc h) b y below = each_drop (Stands h b) 1 y.children below
 
-left_more_below : (h : ℕ) (b : Image) (x : BTree h) (k : CellRef) (y : BTree h) → BelowStands h b x → BelowStands h b y → BelowStands h b (left_more h x k y)
+pub left_more_below : (h : ℕ) (b : Image) (x : BTree h) (k : CellRef) (y : BTree h) → BelowStands h b x → BelowStands h b y → BelowStands h b (left_more h x k y)
 left_more_below zero b x k y below also = tt
 left_more_below (suc h) b x k y below also = each_both (Stands h b) x.children (take 1 y.children) below (each_take (Stands h b) 1 y.children also)
 
-joined_below : (h : ℕ) (b : Image) (x : BTree h) (k : CellRef) (y : BTree h) → BelowStands h b x → BelowStands h b y → BelowStands h b (both_joined h x k y)
+pub joined_below : (h : ℕ) (b : Image) (x : BTree h) (k : CellRef) (y : BTree h) → BelowStands h b x → BelowStands h b y → BelowStands h b (both_joined h x k y)
 joined_below zero b x k y below also = tt
 joined_below (suc h) b x k y below also = each_both (Stands h b) x.children y.children below also
 
 -- their cells
 module _ (b : Image) (k : CellRef) where
-  left_drops : (h : ℕ) (x y : BTree h) → AreOnce (cells h x ++ (cells h y ++ [])) → DropsCells b (cells h x ++ (cells h y ++ [])) (cells h (left_less h x) ++ (cells h (right_more h x k y) ++ []))
+  pub left_drops : (h : ℕ) (x y : BTree h) → AreOnce (cells h x ++ (cells h y ++ [])) → DropsCells b (cells h x ++ (cells h y ++ [])) (cells h (left_less h x) ++ (cells h (right_more h x k y) ++ []))
   left_drops zero x y once = record { more = λ n within. within; gone = λ n within. inl within; once = once }
   left_drops (suc h) x y once =
       let n = length x.children - 1 in
@@ -187,7 +187,7 @@ module _ (b : Image) (k : CellRef) where
       (subst (λ (ns : List ℕ). DropsCells b ((x.at.number ∷ (P ++ Q)) ++ (y.at.number ∷ (R ++ []))) ((x.at.number ∷ P) ++ (y.at.number ∷ ns))) (sym now)
       (moved_behind b (x.at.number ∷ P) Q y.at.number (R ++ []) (subst (λ (ns : List ℕ). AreOnce ((x.at.number ∷ ns) ++ (y.at.number ∷ (R ++ [])))) was once)))
 
-  right_drops : (h : ℕ) (x y : BTree h) → AreOnce (cells h x ++ (cells h y ++ [])) → DropsCells b (cells h x ++ (cells h y ++ [])) (cells h (left_more h x k y) ++ (cells h (right_less h y) ++ []))
+  pub right_drops : (h : ℕ) (x y : BTree h) → AreOnce (cells h x ++ (cells h y ++ [])) → DropsCells b (cells h x ++ (cells h y ++ [])) (cells h (left_more h x k y) ++ (cells h (right_less h y) ++ []))
   right_drops zero x y once = record { more = λ n within. within; gone = λ n within. inl within; once = once }
   right_drops (suc h) x y once =
       let P = flat_map (cells h) x.children in
@@ -199,7 +199,7 @@ module _ (b : Image) (k : CellRef) where
       (subst (λ (ns : List ℕ). DropsCells b ((x.at.number ∷ P) ++ (y.at.number ∷ (Q ++ (R ++ [])))) ((x.at.number ∷ ns) ++ (y.at.number ∷ (R ++ [])))) (sym now)
       (moved_before b (x.at.number ∷ P) Q y.at.number (R ++ []) (subst (λ (ns : List ℕ). AreOnce ((x.at.number ∷ P) ++ (y.at.number ∷ ns))) was once)))
 
-  joined_drops : (h : ℕ) (x y : BTree h) → AreOnce (cells h x ++ (cells h y ++ [])) → b y.at.number ≡ Some zero_cell → DropsCells b (cells h x ++ (cells h y ++ [])) (cells h (both_joined h x k y) ++ [])
+  pub joined_drops : (h : ℕ) (x y : BTree h) → AreOnce (cells h x ++ (cells h y ++ [])) → b y.at.number ≡ Some zero_cell → DropsCells b (cells h x ++ (cells h y ++ [])) (cells h (both_joined h x k y) ++ [])
   joined_drops zero x y once blank = gone_one b (x.at.number ∷ []) y.at.number [] blank once
   joined_drops (suc h) x y once blank =
       let P = flat_map (cells h) x.children in
