@@ -33,3 +33,5 @@ pub mod SiblingLemmas
 pub mod ShiftLemmas
 pub mod MendLemmas
 pub mod PairEnds
+pub mod ShortLemmas
+pub mod ShortEnds

@@ -33,6 +33,17 @@ plain_first before own = record {
   goes_on = record { below = refl; classes = refl; class = refl; room = refl };
 }
 
+pub plain_within : (before after : Work) (own : List ℕ) (few many : ℕ) → few ≤ many → IsPlain before after own few → IsPlain before after own many
+plain_within before after own few many within plain = record {
+  none = plain.none;
+  places = (let places = plain.places in omega arith);
+  says = plain.says;
+  goes_on = plain.goes_on;
+}
+
+pub plain_more : (before after : Work) (own : List ℕ) → IsPlain before after own 0 → IsPlain before after own 3
+plain_more before after own plain = plain_within before after own 0 3 (omega arith) plain
+
 pub plain_put : (before mid : Work) (own : List ℕ) (count : ℕ) (at : CellRef) (cell : Cell) → IsPlain before mid own count → IsAmong own at.number → (¬ IsLeft before at.number) → IsPlain before (with_cell mid at cell) own (count + 1)
 plain_put before mid own count at cell plain inside spent =
     let longer = put_longer mid.pairs (record { at = at; cell = cell }) in

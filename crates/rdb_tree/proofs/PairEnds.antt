@@ -20,7 +20,7 @@ use Rattle.rdb_tree.proofs.PairLemmas.{behind_part, woven_first, cells_around, m
 use Rattle.rdb_tree.proofs.SiblingLemmas.{left_less, right_more, left_more, right_less, both_joined, left_list, right_list, joined_list, left_shapes, right_shapes, joined_shape}
 use Rattle.rdb_tree.proofs.WovenLemmas.{each_front, each_back, map_there, length_map}
 
-alike_of : (h : ℕ) (x y : BTree h) → IsShaped h 2 x → IsShaped h 2 y → ((roots h x.children ≡ []) × (roots h y.children ≡ [])) ⊎ ((length (roots h x.children) ≡ length x.keys + 1) × (length (roots h y.children) ≡ length y.keys + 1))
+pub alike_of : (h : ℕ) (x y : BTree h) → IsShaped h 2 x → IsShaped h 2 y → ((roots h x.children ≡ []) × (roots h y.children ≡ [])) ⊎ ((length (roots h x.children) ≡ length x.keys + 1) × (length (roots h y.children) ≡ length y.keys + 1))
 alike_of zero x y left right = inl (refl, refl)
 alike_of (suc h) x y left right = inr (length_map (λ (c : BTree h). c.at) x.children ∙ left.1, length_map (λ (c : BTree h). c.at) y.children ∙ right.1)
 
@@ -30,13 +30,13 @@ module _ (w : Work) (at : CellRef) (h place : ℕ) (K L : List CellRef) (k : Cel
   abbrev pub pair_node : BTree (suc h)
   pair_node = record { at = at; keys = K ++ k ∷ L; children = F ++ x ∷ y ∷ B }
 
-  middle_stands : Each (Stands h (reading w)) (x ∷ y ∷ B)
+  pub middle_stands : Each (Stands h (reading w)) (x ∷ y ∷ B)
   middle_stands = each_back (Stands h (reading w)) F (x ∷ y ∷ B) stands.1
 
-  node_of_child : (c : BTree h) → Stands h (reading w) c → IsShaped h 2 c → IsNodeAt (reading w) c.at c.keys (roots h c.children)
+  pub node_of_child : (c : BTree h) → Stands h (reading w) c → IsShaped h 2 c → IsNodeAt (reading w) c.at c.keys (roots h c.children)
   node_of_child c stand shape = record { few = (few_keys h 2 c shape).fit; fits = roots_fit h 2 c shape; here = stands_held h (reading w) c stand }
 
-  pub sib : Siblings (reading w) (K ++ k ∷ L) (roots (suc h) (F ++ x ∷ y ∷ B)) place
+  unfoldable pub sib : Siblings (reading w) (K ++ k ∷ L) (roots (suc h) (F ++ x ∷ y ∷ B)) place
   sib = record {
     between = k;
     left = x.at;

@@ -118,19 +118,27 @@ fn mend<C: Cells>(cells: &mut Overlay<C>, at: CellRef, place: usize)
     if has_enough(&*cells, children[place]) {
         return;
     }
-    if place > 0 && can_spare(&*cells, children[place - 1]) {
+    if place == 0 {
+        if can_spare(&*cells, children[place + 1]) {
+            share_from_right(cells, at, versions, children, place);
+            return;
+        }
+        merge(cells, at, versions, children, place);
+        return;
+    }
+    if can_spare(&*cells, children[place - 1]) {
         share_from_left(cells, at, versions, children, place - 1);
         return;
     }
-    if place < versions.len() && can_spare(&*cells, children[place + 1]) {
-        share_from_right(cells, at, versions, children, place);
-        return;
-    }
-    if place > 0 {
+    if place == versions.len() {
         merge(cells, at, versions, children, place - 1);
         return;
     }
-    merge(cells, at, versions, children, place);
+    if can_spare(&*cells, children[place + 1]) {
+        share_from_right(cells, at, versions, children, place);
+        return;
+    }
+    merge(cells, at, versions, children, place - 1);
 }
 
 /// Returns whether a node has as many keys as it needs below the root.
