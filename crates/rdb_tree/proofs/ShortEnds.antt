@@ -57,6 +57,27 @@ module _ (w : Work) (at : CellRef) (h place : ℕ) (t : BTree (suc h)) (s : IsSh
         let there = s.place_is in
         omega arith
 
+    pub first_below : place ≡ 0 → place < length vs
+    first_below first =
+        let same = ap (length {A = CellRef}) v_is in
+        let enough = s.keys.enough in
+        omega arith
+
+    pub inner_below : place ≢ length vs → place < length vs
+    inner_below apart =
+        let same = ap (length {A = CellRef}) v_is in
+        let count = counts in
+        let there = s.place_is in
+        omega arith
+
+    pub children_few : length cs ≤ 8
+    children_few =
+        let same = ap (length {A = CellRef}) c_is in
+        let roots_count = length_map (λ (c : BTree h). c.at) t.children in
+        let many = s.many in
+        let few = s.keys.fit in
+        omega arith
+
     pub short_node : (d : CellRef) → IsNodeAt (reading w) (get_or cs place d) s.short.keys (roots h s.short.children)
     short_node d = child_node cs c_is place s.short short_there s.short_shape d
 
