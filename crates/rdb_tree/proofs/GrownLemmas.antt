@@ -36,7 +36,7 @@ pub no_way : (near : CellRef → Bool) (steps : List Step) (k : ℕ) (s : BTree 
 no_way near [] k s leads = let same : 0 ≡ suc k = ap levels_of leads in absurd (omega arith)
 no_way near (x ∷ xs) k s leads = leads
 
-once_own : (h : ℕ) (ts : List (BTree h)) (n : ℕ) (c : BTree h) → slice_get ts n ≡ Some c → AreOnce (flat_map (cells h) ts) → AreOnce (cells h c)
+pub once_own : (h : ℕ) (ts : List (BTree h)) (n : ℕ) (c : BTree h) → slice_get ts n ≡ Some c → AreOnce (flat_map (cells h) ts) → AreOnce (cells h c)
 once_own h [] n c at once = cc
 once_own h (t ∷ ts) zero c at once = let is : t ≡ c = cc in subst (λ (x : BTree h). AreOnce (cells h x)) is (once_parts (cells h t) (flat_map (cells h) ts) once).0
 once_own h (t ∷ ts) (suc n) c at once = once_own h ts n c at (once_parts (cells h t) (flat_map (cells h) ts) once).1

@@ -35,3 +35,4 @@ pub mod MendLemmas
 pub mod PairEnds
 pub mod ShortLemmas
 pub mod ShortEnds
+pub mod LossLemmas

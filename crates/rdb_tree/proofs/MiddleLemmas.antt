@@ -61,13 +61,13 @@ module _ (front back was now fresh : List ℕ) (adds : AddsCells fresh was now) 
     }
 
 module _ (h : ℕ) (ts : List (BTree h)) (n : ℕ) where
-  ahead : List ℕ
+  pub ahead : List ℕ
   ahead = flat_map (cells h) (take n ts)
 
-  behind : List ℕ
+  pub behind : List ℕ
   behind = flat_map (cells h) (drop (suc n) ts)
 
-  cells_another : (d : BTree h) → flat_map (cells h) (with_another n d ts) ≡ ahead ++ (cells h d ++ behind)
+  pub cells_another : (d : BTree h) → flat_map (cells h) (with_another n d ts) ≡ ahead ++ (cells h d ++ behind)
   unfolding ahead behind
   cells_another d = flat_map-append (cells h) (take n ts) (d ∷ drop (suc n) ts)
 
@@ -77,7 +77,7 @@ module _ (h : ℕ) (ts : List (BTree h)) (n : ℕ) where
       flat_map-append (cells h) (take n ts) (l ∷ r ∷ drop (suc n) ts)
       ∙ ap (λ (xs : List ℕ). flat_map (cells h) (take n ts) ++ xs) (sym (append_assoc (cells h l) (cells h r) (flat_map (cells h) (drop (suc n) ts))))
 
-  cells_at : (c : BTree h) → slice_get ts n ≡ Some c → flat_map (cells h) ts ≡ ahead ++ (cells h c ++ behind)
+  pub cells_at : (c : BTree h) → slice_get ts n ≡ Some c → flat_map (cells h) ts ≡ ahead ++ (cells h c ++ behind)
   cells_at c at = ap (flat_map (cells h)) (sym (same_another n c ts at)) ∙ cells_another c
 
   -- what comes of the cells of a node, whose own is the first, as of those of a child

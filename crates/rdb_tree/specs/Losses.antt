@@ -90,7 +90,7 @@ pub record HasLost (before after : Work) (lost : CellRef) (count h : ℕ) (t : B
 -- the last version was
 pub record HasLostLast (before after : Work) (lost : CellRef) (h : ℕ) (t : BTree h) : Type 0 where
   pub lost_one : HasLost before after lost (3 * h + 1) h t
-  pub last : lost_one.less.leaves.back ≡ []
+  pub list : versions h t ≡ versions h lost_one.now ++ lost ∷ []
 
 -- the tree lists the version, in the order of what the keys say
 pub record IsHome (said : Sayings) (image : Image) (version at : CellRef) (h : ℕ) (t : BTree h) : Type 0 where

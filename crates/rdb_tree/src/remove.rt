@@ -1,7 +1,7 @@
 //! A version taken out of the tree: from a leaf, whose last version replaces it where it stands in an inner node; and a node
 //! with too few keys is mended on the way up, by a key of a sibling that can spare one, or else by merging. It writes nodes and
 //! the head.
-ghost use Rattle.std.specs.Prelude.{◌≡◌, ◌≤◌, ◌<◌, ◌+◌, ℕ, suc, List, length, nat_lt, nat_le};
+ghost use Rattle.std.specs.Prelude.{◌≡◌, ◌≤◌, ◌<◌, ◌+◌, ◌*◌, ℕ, suc, List, length, nat_lt, nat_le};
 ghost use Rattle.std.specs.Option.{unwrap_or};
 ghost use Rattle.std.specs.Prelude.{slice_get};
 ghost use Rattle.rdb_pages.specs.declared.cell.CellRef.{CellRef as RefValue};
@@ -10,7 +10,8 @@ ghost use Rattle.rdb_cells.specs.TreeFormat.{most_keys, most_children};
 ghost use Rattle.rdb_cells.specs.Words.{no_ref};
 ghost use Rattle.rdb_cells.specs.Work.{work, reading};
 ghost use Rattle.rdb_tree.specs.Changes.{IsNodeAt, HasPlaces, Siblings, shared_left, shared_right, merged, with_cell, cell_of};
-ghost use Rattle.rdb_tree.specs.Losses.{IsShort, HasMended};
+ghost use Rattle.rdb_cells.specs.Keys.{says};
+ghost use Rattle.rdb_tree.specs.Losses.{IsShort, HasMended, IsBranch, IsHome, HasLost, HasLostLast};
 ghost use Rattle.rdb_tree.specs.Trees.{least_keys, node_with};
 ghost use Rattle.rdb_tree.specs.Trees.{BTree as TreeOf};
 
@@ -46,6 +47,13 @@ fn take_out<C: Cells, K: Keys>(
     version: CellRef,
     levels: u32,
 )
+    requires tree { (h : ℕ) × (t : TreeOf h)
+        × IsHome (says (K.meaning keys.now) (reading (work C.Cells cells.old))) (reading (work C.Cells cells.old)) version at h t × (h < levels) }
+    requires places { HasPlaces (work C.Cells cells.old) (3 * levels) }
+    ensures lost { (h : ℕ) (t : TreeOf h) →
+        IsHome (says (K.meaning keys.now) (reading (work C.Cells cells.old))) (reading (work C.Cells cells.old)) version at h t →
+        HasLost (work C.Cells cells.old) (work C.Cells cells.new) version (3 * h + 2) h t }
+    ensures below { (cells.new.cells ≡ cells.old.cells) × (cells.new.class ≡ cells.old.class) }
 {
     let node = node_at(&*cells, at);
     let place = count_before(&*cells, keys, keys_of(&node), version);
@@ -77,6 +85,11 @@ fn key_at(node: &TreeNode, place: usize) -> CellRef
 /// Takes the last version out of a tree with fewer levels above its leaves than this, and returns it. The root keeps its cell,
 /// and may be left with a key less.
 fn take_last<C: Cells>(cells: &mut Overlay<C>, at: CellRef, levels: u32) -> CellRef
+    requires tree { (h : ℕ) × (t : TreeOf h) × IsBranch (reading (work C.Cells cells.old)) at least_keys h t × (h < levels) }
+    requires places { HasPlaces (work C.Cells cells.old) (3 * levels) }
+    ensures last { (h : ℕ) (t : TreeOf h) → IsBranch (reading (work C.Cells cells.old)) at least_keys h t →
+        HasLostLast (work C.Cells cells.old) (work C.Cells cells.new) result h t }
+    ensures below { (cells.new.cells ≡ cells.old.cells) × (cells.new.class ≡ cells.old.class) }
 {
     let node = node_at(&*cells, at);
     let versions = keys_of(&node);
