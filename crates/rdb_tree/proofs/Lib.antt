@@ -36,3 +36,4 @@ pub mod PairEnds
 pub mod ShortLemmas
 pub mod ShortEnds
 pub mod LossLemmas
+pub mod LastLemmas

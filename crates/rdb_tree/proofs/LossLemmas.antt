@@ -60,8 +60,8 @@ branch_child image at least h t branch n c there = record {
 }
 
 -- a leaf is written without a version
-pub leaf_lost : (w after : Work) (at : CellRef) (least : ℕ) (t : BTree zero) (rest : List CellRef) (lost : CellRef) (leaves : Leaves lost t.keys rest) → IsBranch (reading w) at least zero t → after ≡ with_cell w at (cell_of rest []) → HasLost w after lost 1 zero t
-leaf_lost w after at least t rest lost leaves branch is = subst (λ (v : Work). HasLost w v lost 1 zero t) (sym is) (record {
+pub leaf_lost : (w after : Work) (at : CellRef) (least : ℕ) (t : BTree zero) (rest : List CellRef) (lost : CellRef) (leaves : Leaves lost t.keys rest) → IsBranch (reading w) at least zero t → after ≡ with_cell w at (cell_of rest []) → (has : HasLost w after lost 1 zero t) × (versions zero has.now ≡ rest)
+leaf_lost w after at least t rest lost leaves branch is = subst (λ (v : Work). (has : HasLost w v lost 1 zero t) × (versions zero has.now ≡ rest)) (sym is) ((record {
   now = record { at = t.at; keys = rest; children = [] };
   less = record {
     at = refl;
@@ -80,7 +80,7 @@ leaf_lost w after at least t rest lost leaves branch is = subst (λ (v : Work). 
   };
   plain = plain_put w w (cells zero t) 0 at (cell_of rest []) (plain_first w (cells zero t)) (inl (ap (λ (r : CellRef). r.number) branch.root))
       (node_spent w (λ r. true) at (Rooted zero t) branch.stands at.number (inl (ap (λ (r : CellRef). r.number) branch.root)));
-})
+}), refl)
 
 -- the node without its version, one of whose children may be a key too few
 pub record IsReduced (w mid : Work) (lost at : CellRef) (place count h : ℕ) (t : BTree (suc h)) : Type 0 where
@@ -120,6 +120,10 @@ module _ (w mid after : Work) (lost at : CellRef) (place count h : ℕ) (t : BTr
     };
     plain = plain_then w mid after (cells (suc h) t) (cells (suc h) reduced.now) count 3 reduced.plain has.plain reduced.drops.more;
   }
+
+  pub reduced_list : versions (suc h) reduced_mended.now ≡ versions (suc h) reduced.now
+  unfolding reduced_mended
+  reduced_list = has.mended.same
 
 -- a child lost a version
 module _ (w mid : Work) (lost at : CellRef) (least place count h : ℕ) (t : BTree (suc h)) (branch : IsBranch (reading w) at least (suc h) t) (some : 0 < length t.keys) (c : BTree h) (there : slice_get t.children place ≡ Some c) (has : HasLost w mid lost count h c) where
@@ -211,3 +215,7 @@ module _ (w mid : Work) (lost at : CellRef) (least place count h : ℕ) (t : BTr
     elsewhere = less_elsewhere;
     plain = less_plain;
   }
+
+  pub child_list : versions (suc h) child_reduced.now ≡ woven t.keys (map (versions h) with_less)
+  unfolding child_reduced
+  child_list = refl

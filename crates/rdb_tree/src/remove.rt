@@ -12,7 +12,7 @@ ghost use Rattle.rdb_cells.specs.Work.{work, reading};
 ghost use Rattle.rdb_tree.specs.Changes.{IsNodeAt, HasPlaces, Siblings, shared_left, shared_right, merged, with_cell, cell_of};
 ghost use Rattle.rdb_cells.specs.Keys.{says};
 ghost use Rattle.rdb_tree.specs.Losses.{IsShort, HasMended, IsBranch, IsHome, HasLost, HasLostLast};
-ghost use Rattle.rdb_tree.specs.Trees.{least_keys, node_with};
+ghost use Rattle.rdb_tree.specs.Trees.{least_keys, node_with, keys_in};
 ghost use Rattle.rdb_tree.specs.Trees.{BTree as TreeOf};
 
 use crate::lookup::child_at;
@@ -94,9 +94,11 @@ fn take_last<C: Cells>(cells: &mut Overlay<C>, at: CellRef, levels: u32) -> Cell
     let node = node_at(&*cells, at);
     let versions = keys_of(&node);
     if node.leaf {
-        let (rest, last) = versions.split_at(versions.len() - 1);
+        let place = versions.len() - 1;
+        let (rest, _) = versions.split_at(place);
+        let last = key_at(&node, place);
         put_node(cells, at, rest, &[]);
-        return last[0];
+        return last;
     }
     let place = versions.len();
     let last = take_last(cells, child_at(&node, place), levels - 1);
