@@ -21,8 +21,8 @@ pub keys_of-versions-requires : goal.keys_of-versions-requires
 keys_of-versions-requires g m c =
     node_few (reading (work g.C.Cells c.args.cells.now)) c.args.at c.requires.tree.1.keys (roots c.requires.tree.0 c.requires.tree.1.children) (branch_node (reading (work g.C.Cells c.args.cells.now)) c.args.at least_keys c.requires.tree.0 c.requires.tree.1 c.requires.tree.2) c.node_at-node.result c.node_at-node.ensures
 
-pub overflow_sub-versions : goal.overflow_sub-versions
-overflow_sub-versions g m c =
+pub overflow_sub-place : goal.overflow_sub-place
+overflow_sub-place g m c =
     let same = (ap (length {A = CellRef}) (c.keys_of-versions.ensures ∙ node_keys (reading (work g.C.Cells c.args.cells.now)) c.args.at c.requires.tree.1.keys (roots c.requires.tree.0 c.requires.tree.1.children) (branch_node (reading (work g.C.Cells c.args.cells.now)) c.args.at least_keys c.requires.tree.0 c.requires.tree.1 c.requires.tree.2) c.node_at-node.result c.node_at-node.ensures)) in let enough = (few_keys c.requires.tree.0 least_keys c.requires.tree.1 c.requires.tree.2.shape).enough in omega arith
 
 pub put_node-requires-clause-at : goal.put_node-requires-clause-at
