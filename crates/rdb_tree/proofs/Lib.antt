@@ -37,3 +37,5 @@ pub mod ShortLemmas
 pub mod ShortEnds
 pub mod LossLemmas
 pub mod LastLemmas
+pub mod LocatedLemmas
+pub mod TakeLemmas

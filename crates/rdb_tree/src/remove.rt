@@ -3,7 +3,7 @@
 //! the head.
 ghost use Rattle.std.specs.Prelude.{◌≡◌, ◌≤◌, ◌<◌, ◌+◌, ◌*◌, ℕ, suc, List, length, nat_lt, nat_le};
 ghost use Rattle.std.specs.Option.{unwrap_or};
-ghost use Rattle.std.specs.Prelude.{slice_get};
+ghost use Rattle.std.specs.Prelude.{slice_get, Some, true, false, ◌≢◌};
 ghost use Rattle.rdb_pages.specs.declared.cell.CellRef.{CellRef as RefValue};
 ghost use Rattle.rdb_cells.specs.Images.{IsCell};
 ghost use Rattle.rdb_cells.specs.TreeFormat.{most_keys, most_children};
@@ -63,15 +63,26 @@ fn take_out<C: Cells, K: Keys>(
         return;
     }
     let child = child_at(&node, place);
-    if key_at(&node, place) != version {
-        take_out(cells, keys, child, version, levels - 1);
+    if is_at(keys_of(&node), place, version) {
+        let last = take_last(cells, child, levels - 1);
+        let versions = with_other(keys_of(&node), place, last);
+        put_node(cells, at, versions.as_slice(), children_of(&node));
         mend(cells, at, place);
         return;
     }
-    let last = take_last(cells, child, levels - 1);
-    let versions = with_other(keys_of(&node), place, last);
-    put_node(cells, at, versions.as_slice(), children_of(&node));
+    take_out(cells, keys, child, version, levels - 1);
     mend(cells, at, place);
+}
+
+/// Returns whether the version stands at a place among these.
+fn is_at(versions: &[CellRef], place: usize, version: CellRef) -> bool
+    ensures yes { result ≡ true → slice_get versions.now place ≡ Some version }
+    ensures no { result ≡ false → slice_get versions.now place ≢ Some version }
+{
+    match versions.get(place) {
+        Some(own) => *own == version,
+        None => false,
+    }
 }
 
 /// Returns the key at a place of a node, and none past the last.
