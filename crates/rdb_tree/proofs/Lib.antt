@@ -39,3 +39,4 @@ pub mod LossLemmas
 pub mod LastLemmas
 pub mod LocatedLemmas
 pub mod TakeLemmas
+pub mod RemoveLemmas

@@ -19,7 +19,7 @@ use Rattle.rdb_tree.proofs.WovenLemmas.{each_back, ascending_front, ascending_ba
 contains_split : (xs ys : List CellRef) (r : CellRef) → Contains (xs ++ ys) r → Contains xs r ⊎ Contains ys r
 contains_split [] ys r within = inr within
 contains_split (x ∷ xs) ys r within = elim (contains_either x (xs ++ ys) r within) [
-  | inl same ↦ inl (0, omega arith, ap Some same)
+  | inl same ↦ inl (0, omega arith, same)
   | inr later ↦ elim (contains_split xs ys r later) [
     | inl front ↦ inl (contains_later x r xs front)
     | inr back ↦ inr back

@@ -4,11 +4,11 @@ use Rattle.std.proofs.lemmas.Bool.{false≢true}
 use Rattle.std.proofs.lemmas.List.{append_assoc}
 use Rattle.std.proofs.Permutation.{which}
 use Rattle.std.proofs.lemmas.List.Sums.{prefix_len-le-length}
-use Rattle.std.specs.List.{Contains, prefix_len}
+use Rattle.std.specs.List.{Contains, prefix_len, flat_map}
 use Rattle.std.specs.Option.{unwrap_or}
 use Rattle.rdb_pages.specs.declared.cell.CellRef.{CellRef}
 use Rattle.rdb_pages.specs.Pages.{zero_cell}
-use Rattle.rdb_cells.specs.Images.{Image}
+use Rattle.rdb_cells.specs.Images.{Image, IsCell}
 use Rattle.rdb_cells.specs.Keys.{Sayings}
 use Rattle.rdb_cells.specs.Links.{IsAmong}
 use Rattle.rdb_cells.specs.Words.{no_ref}
@@ -25,8 +25,8 @@ use Rattle.rdb_tree.proofs.LastLemmas.{inner_full}
 use Rattle.rdb_tree.proofs.LocatedLemmas.{IsBelow, located, located_leaf}
 use Rattle.rdb_tree.proofs.LossLemmas.{IsReduced, leaf_lost, branch_child, child_reduced, reduced_mended, with_less, less_drops, less_short, less_plain, less_elsewhere}
 use Rattle.rdb_tree.proofs.MendLemmas.{plain_put, plain_within}
-use Rattle.rdb_tree.proofs.NodeLemmas.{looser}
-use Rattle.rdb_tree.proofs.WovenLemmas.{there, map_there, length_map, part_of, keyed_part, get_there}
+use Rattle.rdb_tree.proofs.NodeLemmas.{looser, cell_there}
+use Rattle.rdb_tree.proofs.WovenLemmas.{there, map_there, length_map, part_of, keyed_part, key_within, own_cells}
 
 -- a key is replaced by the last version before it
 swapped : (keys : List CellRef) (parts : List (List CellRef)) (n : ℕ) (version last : CellRef) (was now : List CellRef) → slice_get keys n ≡ Some version → slice_get parts n ≡ Some was → was ≡ now ++ last ∷ [] → Leaves version (woven keys parts) (woven (replaced_at n last keys) (with_another n now parts))
@@ -70,7 +70,7 @@ module _ (w mid after : Work) (version last at : CellRef) (least place h : ℕ) 
   short_now : IsShort (reading put) at place h (record { at = t.at; keys = replaced_at place last t.keys; children = with_another place has.lost_one.now t.children })
   short_now = less_short w mid last at least place (3 * h + 1) h t branch some c there_c has.lost_one (reading put) (replaced_at place last t.keys) as_many here stays
 
-  drops_mid : DropsCells (reading mid) (cells (suc h) t) (t.at.number ∷ _)
+  drops_mid : DropsCells (reading mid) (cells (suc h) t) (t.at.number ∷ flat_map (cells h) (with_another place has.lost_one.now t.children))
   drops_mid = less_drops w mid last at least place (3 * h + 1) h t branch some c there_c has.lost_one
 
   key_put : IsReduced w put version at place (3 * h + 1 + 1) h t
@@ -107,6 +107,15 @@ module _ (said : Sayings) (w : Work) (version at : CellRef) (place : ℕ) where
 
   pub home_keyed : (h : ℕ) (t : BTree h) → IsHome said (reading w) version at h t → IsSome (said.version_of version.number)
   home_keyed h t home = home.keyed.keyed version home.within
+
+  -- each key of the node has one
+  pub home_keys : (h : ℕ) (t : BTree h) → IsHome said (reading w) version at h t → (r : CellRef) → Contains t.keys r → IsSome (said.version_of r.number)
+  home_keys zero t home r within = home.keyed.keyed r within
+  home_keys (suc h) t home r within = home.keyed.keyed r (key_within t.keys (map (versions h) t.children) r within)
+
+  pub leaf_place : (h : ℕ) (t : BTree h) → IsHome said (reading w) version at h t → is_empty (roots h t.children) ≡ true → place ≡ prefix_len (is_before said version) t.keys → place < length t.keys
+  leaf_place zero t home leaf same = below_there t.keys place version (located_leaf said version (home_keyed zero t home) t.keys place same home.keyed.ascending home.within)
+  leaf_place (suc h) t home leaf same = absurd (false≢true (sym (inner_full (reading w) at 1 h t home.branch) ∙ leaf))
 
   -- a leaf
   pub leaf_ends : (after : Work) (h : ℕ) (t : BTree h) (rest : List CellRef) → IsHome said (reading w) version at h t → is_empty (roots h t.children) ≡ true → place ≡ prefix_len (is_before said version) t.keys → rest ≡ without place t.keys → after ≡ with_cell w at (cell_of rest []) → HasLost w after version (3 * h + 2) h t
@@ -244,3 +253,16 @@ module _ (said : Sayings) (w : Work) (version at : CellRef) (place : ℕ) where
             let places = plain.places in
             let as_before = plain.goes_on.room in
             omega arith
+
+    -- its cell is one still
+    pub key_cell : (mid : Work) (last : CellRef) → ((k : ℕ) (c : BTree k) → IsBranch (reading w) child least_keys k c → HasLostLast w mid last k c) → IsCell (reading mid) at.number
+    key_cell mid last has = of_height h t home inner same child_is
+      where
+        of_height : (h : ℕ) (t : BTree h) → IsHome said (reading w) version at h t → is_empty (roots h t.children) ≡ false → place ≡ prefix_len (is_before said version) t.keys → child ≡ unwrap_or (slice_get (roots h t.children) place) no_ref → IsCell (reading mid) at.number
+        of_height zero t home inner same child_is = absurd (false≢true (sym inner))
+        of_height (suc h) t home inner same child_is =
+            let c = found child h t home same child_is in
+            let lost = (has h c.0 (below child h t home same child_is)).lost_one in
+            subst (λ (r : CellRef). IsCell (reading mid) r.number) home.branch.root
+            (cell_there (reading mid) t.at.number (cell_of t.keys (roots (suc h) t.children))
+            (lost.less.elsewhere t.at.number (λ within. home.branch.once.0 (own_cells h t.children place c.0 c.1 t.at.number within)) ∙ home.branch.stands.0))

@@ -1,12 +1,16 @@
 -- A version leaves a tree, and nodes that are left with a key too few are mended.
-use Rattle.std.specs.Prelude.{◌≡◌, ◌≤◌, ◌<◌, ◌+◌, ◌*◌, ◌⊎◌, ℕ, suc, List, [], ◌∷◌, ◌++◌, length, Some, Contains}
+use Rattle.std.specs.Prelude.{◌≡◌, ◌≤◌, ◌<◌, ◌+◌, ◌*◌, ◌⊎◌, ℕ, suc, List, [], ◌∷◌, ◌++◌, length, slice_get, Some, Contains}
+use Rattle.std.specs.Option.{unwrap_or}
 use Rattle.rdb_pages.specs.declared.cell.CellRef.{CellRef}
 use Rattle.rdb_pages.specs.Pages.{zero_cell}
+use Rattle.rdb_cells.specs.HeadFormat.{index_head_cell, rooted_head}
 use Rattle.rdb_cells.specs.Images.{Image}
 use Rattle.rdb_cells.specs.Keys.{Sayings}
 use Rattle.rdb_cells.specs.Links.{IsAmong, AreOnce}
 use Rattle.rdb_cells.specs.Records.{content}
+use Rattle.rdb_cells.specs.Words.{no_ref}
 use Rattle.rdb_cells.specs.Work.{Work, reading, IsLeft, GoesOn, TakesNone}
+use Rattle.rdb_tree.specs.Changes.{with_cell}
 use Rattle.rdb_tree.specs.Growth.{IsTreeChanged}
 use Rattle.rdb_tree.specs.Order.{AreKeyed}
 use Rattle.rdb_tree.specs.Trees.{Node, BTree, Each, Tree, versions, versions_of, cells, Stands, IsShaped, HasKeys, least_keys}
@@ -105,3 +109,9 @@ pub record IsTreeRemoved (before after : Work) (version : CellRef) (head : ℕ) 
   pub leaves : Leaves version (versions_of was) (versions_of now)
   pub none : TakesNone before after
   pub places : length after.pairs ≤ length before.pairs + 36
+
+-- a root without a key goes: the head leads to its only child, or to none below a leaf
+abbrev pub LowersRoot : Work → Work → CellRef → CellRef → List CellRef → List CellRef → Type 0
+LowersRoot before after head root [] children =
+    after ≡ with_cell (with_cell before root zero_cell) head (index_head_cell (rooted_head (unwrap_or (slice_get children 0) no_ref)))
+LowersRoot before after head root (key ∷ keys) children = after ≡ before

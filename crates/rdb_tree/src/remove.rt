@@ -3,7 +3,7 @@
 //! the head.
 ghost use Rattle.std.specs.Prelude.{◌≡◌, ◌≤◌, ◌<◌, ◌+◌, ◌*◌, ℕ, suc, List, length, nat_lt, nat_le};
 ghost use Rattle.std.specs.Option.{unwrap_or};
-ghost use Rattle.std.specs.Prelude.{slice_get, Some, true, false, ◌≢◌};
+ghost use Rattle.std.specs.Prelude.{slice_get, Some, true, false, ◌≢◌, Contains};
 ghost use Rattle.rdb_pages.specs.declared.cell.CellRef.{CellRef as RefValue};
 ghost use Rattle.rdb_cells.specs.Images.{IsCell};
 ghost use Rattle.rdb_cells.specs.TreeFormat.{most_keys, most_children};
@@ -11,7 +11,8 @@ ghost use Rattle.rdb_cells.specs.Words.{no_ref};
 ghost use Rattle.rdb_cells.specs.Work.{work, reading};
 ghost use Rattle.rdb_tree.specs.Changes.{IsNodeAt, HasPlaces, Siblings, shared_left, shared_right, merged, with_cell, cell_of};
 ghost use Rattle.rdb_cells.specs.Keys.{says};
-ghost use Rattle.rdb_tree.specs.Losses.{IsShort, HasMended, IsBranch, IsHome, HasLost, HasLostLast};
+ghost use Rattle.rdb_tree.specs.Losses.{IsShort, HasMended, IsBranch, IsHome, HasLost, HasLostLast, IsTreeRemoved, LowersRoot};
+ghost use Rattle.rdb_tree.specs.Nature.{IsTree};
 ghost use Rattle.rdb_tree.specs.Trees.{least_keys, node_with, keys_in};
 ghost use Rattle.rdb_tree.specs.Trees.{BTree as TreeOf};
 
@@ -32,6 +33,14 @@ pub(crate) fn remove<C: Cells, K: Keys>(
     keys: &K,
     version: CellRef,
 )
+    requires standing { (listed : _) × (nodes : _)
+        × IsTree tree.now.head.number (says (K.meaning keys.now) (reading (work C.Cells cells.old))) (reading (work C.Cells cells.old)) listed nodes
+        × Contains listed version }
+    requires places { HasPlaces (work C.Cells cells.old) 36 }
+    ensures removed { (listed : _) (nodes : _) →
+        (is : IsTree tree.now.head.number (says (K.meaning keys.now) (reading (work C.Cells cells.old))) (reading (work C.Cells cells.old)) listed nodes) →
+        Contains listed version → IsTreeRemoved (work C.Cells cells.old) (work C.Cells cells.new) version tree.now.head.number is.tree }
+    ensures below { (cells.new.cells ≡ cells.old.cells) × (cells.new.class ≡ cells.old.class) }
 {
     let root = IndexHead::root_in(cells.planned(tree.head), 0);
     take_out(cells, keys, root, version, MAX_LEVELS);
@@ -119,6 +128,12 @@ fn take_last<C: Cells>(cells: &mut Overlay<C>, at: CellRef, levels: u32) -> Cell
 
 /// Takes a root away that has no key: the head leads to its only child then, or to none below a leaf.
 fn lower_root<C: Cells>(cells: &mut Overlay<C>, head: CellRef, root: CellRef)
+    requires root { (keys : List RefValue) × (children : List RefValue) × IsNodeAt (reading (work C.Cells cells.old)) root keys children }
+    requires head { IsCell (reading (work C.Cells cells.old)) head.number }
+    requires places { HasPlaces (work C.Cells cells.old) 2 }
+    ensures lowers { (keys children : List RefValue) → IsNodeAt (reading (work C.Cells cells.old)) root keys children →
+        LowersRoot (work C.Cells cells.old) (work C.Cells cells.new) head root keys children }
+    ensures below { (cells.new.cells ≡ cells.old.cells) × (cells.new.class ≡ cells.old.class) }
 {
     let node = node_at(&*cells, root);
     if node.count > 0 {
