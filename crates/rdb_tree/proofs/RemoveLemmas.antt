@@ -189,3 +189,75 @@ bare_node before mid after version head h t leads stands shape levels has none i
     once.1 inside
     (λ n within. elim within [ inl same ↦ inl (sym root_is ∙ same) | inr lower ↦ inr (subst (λ (ns : List ℕ). IsAmong ns n) below lower) ])
     is
+
+-- the tree of a head, that lists the version
+module _ (before : Work) (head : CellRef) (said : Sayings) (version root : CellRef) where
+  home_of : (h : ℕ) (t : BTree h) → IsRootedAt said (reading before) root (Rooted h t) → AreOnce (cells h t) → Contains (versions h t) version → IsHome said (reading before) version root h t
+  home_of h t rooted once within = record {
+    branch = record { root = rooted.root; stands = rooted.sound.stands; shape = rooted.sound.shape; once = once };
+    keyed = rooted.sound.keyed;
+    within = within;
+  }
+
+  tree_home : (tree : Tree) → IsRootedAt said (reading before) root tree → AreOnce (cells_of tree) → Contains (versions_of tree) version → (h : ℕ) × (t : BTree h) × IsHome said (reading before) version root h t × (h < 12)
+  tree_home Empty rooted once within = absurd (omega (arith, within.1))
+  tree_home (Rooted h t) rooted once within = (h, t, home_of h t rooted once within, (let levels = rooted.levels in omega arith))
+
+  module _ (mid : Work) (has : (h : ℕ) (t : BTree h) → IsHome said (reading before) version root h t → HasLost before mid version (3 * h + 2) h t) where
+    -- what lowering the root asks
+    pub record CanLower : Type 0 where
+      pub keys : List CellRef
+      pub children : List CellRef
+      pub node : IsNodeAt (reading mid) root keys children
+      pub head_cell : IsCell (reading mid) head.number
+      pub room : HasPlaces before 36 → HasPlaces mid 2
+
+    tree_lower : (tree : Tree) → reading before head.number ≡ Some (index_head_cell (rooted_head (root_of tree))) → IsRootedAt said (reading before) root tree → AreOnce (cells_of tree) → Contains (versions_of tree) version → CanLower
+    tree_lower Empty leads rooted once within = absurd (omega (arith, within.1))
+    tree_lower (Rooted h t) leads rooted once within =
+        let lost = has h t (home_of h t rooted once within) in
+        record {
+          keys = lost.now.keys;
+          children = roots h lost.now.children;
+          node = subst (λ (r : CellRef). IsNodeAt (reading mid) r lost.now.keys (roots h lost.now.children)) rooted.root (root_now before mid mid version head h t leads rooted.sound.stands rooted.sound.shape rooted.levels lost);
+          head_cell = cell_there (reading mid) head.number (index_head_cell (rooted_head t.at)) (head_now before mid mid version head h t leads rooted.sound.stands rooted.sound.shape rooted.levels lost);
+          room = room_now before mid mid version head h t leads rooted.sound.stands rooted.sound.shape rooted.levels lost;
+        }
+
+    module _ (after : Work) (lowers : (keys children : List CellRef) → IsNodeAt (reading mid) root keys children → LowersRoot mid after head root keys children) where
+      by_height : (h : ℕ) (t : BTree h) (leads : reading before head.number ≡ Some (index_head_cell (rooted_head t.at))) (stands : Stands h (reading before) t) (shape : IsShaped h 1 t) (levels : suc h ≤ most_levels) (lost : HasLost before mid version (3 * h + 2) h t) → lost.now.keys ≡ [] →
+          after ≡ with_cell (with_cell mid t.at zero_cell) head (index_head_cell (rooted_head (unwrap_or (slice_get (roots h lost.now.children) 0) no_ref))) → IsTreeRemoved before after version head.number (Rooted h t)
+      by_height zero t leads stands shape levels lost none is = bare_leaf before mid after version head t leads stands shape levels lost none is
+      by_height (suc h) t leads stands shape levels lost none is = bare_node before mid after version head h t leads stands shape levels lost none is
+
+      tree_ends : (tree : Tree) → reading before head.number ≡ Some (index_head_cell (rooted_head (root_of tree))) → IsRootedAt said (reading before) root tree → AreOnce (cells_of tree) → Contains (versions_of tree) version → IsTreeRemoved before after version head.number tree
+      tree_ends Empty leads rooted once within = absurd (omega (arith, within.1))
+      tree_ends (Rooted h t) leads rooted once within =
+          let lost = has h t (home_of h t rooted once within) in
+          let node = root_now before mid after version head h t leads rooted.sound.stands rooted.sound.shape rooted.levels lost in
+          let lowered_root = subst (λ (r : CellRef). (keys children : List CellRef) → IsNodeAt (reading mid) r keys children → LowersRoot mid after head r keys children) (sym rooted.root) lowers in
+          by_keys lost lost.now.keys refl (lowered_root lost.now.keys (roots h lost.now.children) node)
+        where
+          by_keys : (lost : HasLost before mid version (3 * h + 2) h t) (keys : List CellRef) → lost.now.keys ≡ keys → LowersRoot mid after head t.at keys (roots h lost.now.children) → IsTreeRemoved before after version head.number (Rooted h t)
+          by_keys lost [] none is = by_height h t leads rooted.sound.stands rooted.sound.shape rooted.levels lost none is
+          by_keys lost (k ∷ ks) some is = kept before mid after version head h t leads rooted.sound.stands rooted.sound.shape rooted.levels lost (let more = ap (length {A = CellRef}) some in omega arith) is
+
+  module _ (listed : List CellRef) (nodes : List ℕ) (is : IsTree head.number said (reading before) listed nodes) (root_is : root_of is.tree ≡ root) (within : Contains listed version) where
+    rooted : IsRootedAt said (reading before) root is.tree
+    rooted = tree_rooted head.number said (reading before) listed nodes is root root_is
+
+    once_tree : AreOnce (cells_of is.tree)
+    once_tree = subst AreOnce is.nodes_are is.once
+
+    within_tree : Contains (versions_of is.tree) version
+    within_tree = subst (λ (rs : List CellRef). Contains rs version) is.listed_is within
+
+    pub removal_home : (h : ℕ) × (t : BTree h) × IsHome said (reading before) version root h t × (h < 12)
+    removal_home = tree_home is.tree rooted once_tree within_tree
+
+    module _ (mid : Work) (has : (h : ℕ) (t : BTree h) → IsHome said (reading before) version root h t → HasLost before mid version (3 * h + 2) h t) where
+      pub removal_lower : CanLower mid has
+      removal_lower = tree_lower mid has is.tree is.leads rooted once_tree within_tree
+
+      pub removal_ends : (after : Work) → ((keys children : List CellRef) → IsNodeAt (reading mid) root keys children → LowersRoot mid after head root keys children) → IsTreeRemoved before after version head.number is.tree
+      removal_ends after lowers = tree_ends mid has after lowers is.tree is.leads rooted once_tree within_tree

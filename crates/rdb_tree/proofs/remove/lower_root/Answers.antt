@@ -16,11 +16,11 @@ use Rattle.rdb_tree.proofs.remove.lower_root.Goals as goal
 pub node_at-node-requires : goal.node_at-node-requires
 node_at-node-requires g c = node_cell (reading (work g.C.Cells c.args.cells.now)) c.args.root c.requires.root.0 c.requires.root.1 c.requires.root.2
 
-pub returns-then-count-clause-lowers : goal.returns-then-count-clause-lowers
-returns-then-count-clause-lowers g c = λ keys children is.
+pub returns-then-node-gt0-clause-lowers : goal.returns-then-node-gt0-clause-lowers
+returns-then-node-gt0-clause-lowers g c = λ keys children is.
     let read = node_read (reading (work g.C.Cells c.args.cells.now)) c.args.root keys children is c.node_at-node.result c.node_at-node.ensures in
     let count = ap (λ (n : TreeNode). n.count) read in
-    let some = c.if-count-gt0.true in
+    let some = c.if-node-gt0.true in
     root_stays (work g.C.Cells c.args.cells.now) c.args.head c.args.root keys children (omega arith)
 
 pub child_at-top-requires : goal.child_at-top-requires
@@ -33,7 +33,7 @@ pub returns-clause-lowers : goal.returns-clause-lowers
 returns-clause-lowers g c = λ keys children is.
     let read = node_read (reading (work g.C.Cells c.args.cells.now)) c.args.root keys children is c.node_at-node.result c.node_at-node.ensures in
     let count = ap (λ (n : TreeNode). n.count) read in
-    let none = c.if-count-gt0.false in
+    let none = c.if-node-gt0.false in
     let top = c.child_at-top.ensures ∙ ap (λ (cs : List CellRef). unwrap_or (slice_get cs 0) no_ref) (node_children (reading (work g.C.Cells c.args.cells.now)) c.args.root keys children is c.node_at-node.result c.node_at-node.ensures) in
     root_goes (work g.C.Cells c.args.cells.now) (work g.C.Cells c.put_cell-2.new.cells) c.args.head c.args.root keys children (omega arith)
     (c.put_cell-2.ensures.work ∙ ap₂ (λ (v : Work) (d : Cell). with_cell v c.args.head d) c.put_cell.ensures.work (c.to_cell.ensures.value ∙ ap index_head_cell (c.rooted.ensures ∙ ap rooted_head top)))
