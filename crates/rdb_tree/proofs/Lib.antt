@@ -40,3 +40,4 @@ pub mod LastLemmas
 pub mod LocatedLemmas
 pub mod TakeLemmas
 pub mod RemoveLemmas
+pub mod RemoveLaws
