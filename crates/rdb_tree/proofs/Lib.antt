@@ -41,3 +41,4 @@ pub mod LocatedLemmas
 pub mod TakeLemmas
 pub mod RemoveLemmas
 pub mod RemoveLaws
+pub mod OneTree
