@@ -3,15 +3,11 @@
 #![tactic(auto)]
 
 mod insert;
-#[cfg(test)]
-mod key_table;
 mod lookup;
 mod node;
 mod path;
 mod remove;
 mod search;
-#[cfg(test)]
-mod tests;
 mod tree;
 
 pub use tree::Tree;
