@@ -1,0 +1,17 @@
+//! The versions of objects in cells: a header for each, and its row in a chain of row cells. Also the keys that indexes go by,
+//! read from the cells as they stand.
+#![tactic(auto)]
+
+mod label;
+mod laws;
+mod rows;
+mod versions;
+
+pub use label::Label;
+pub use laws::{
+    a_place_has_one_version, a_put_version_keeps_the_others, versions_rest_on_their_cells,
+};
+pub use versions::{
+    VERSION_CELLS, change_older, give_back, id_in, is_tombstone, older_in, put_tombstone,
+    put_version, row_bytes, row_length, serial_in, stamp_in, with_stamp,
+};
