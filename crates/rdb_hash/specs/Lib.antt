@@ -1,0 +1,4 @@
+pub mod Shape
+pub mod HashLaws
+pub mod Lookup
+pub mod Walks
