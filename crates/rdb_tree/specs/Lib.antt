@@ -1,0 +1,6 @@
+pub mod Trees
+pub mod Order
+pub mod Lookups
+pub mod Nature
+pub mod TreeLaws
+pub mod KeyTable

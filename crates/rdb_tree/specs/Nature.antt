@@ -1,0 +1,29 @@
+-- A tree index: the head leads to a B-tree, which lists its versions in order.
+use Rattle.std.specs.Prelude.{◌≡◌, ℕ, List, Some}
+use Rattle.rdb_pages.specs.declared.cell.CellRef.{CellRef}
+use Rattle.rdb_cells.specs.HeadFormat.{index_head_cell, rooted_head}
+use Rattle.rdb_cells.specs.Images.{Image}
+use Rattle.rdb_cells.specs.Index.{Nature}
+use Rattle.rdb_cells.specs.Keys.{Sayings, ListsVersions}
+use Rattle.rdb_cells.specs.Links.{IsAmong, AreOnce}
+use Rattle.rdb_cells.specs.Parts.{tree_part}
+use Rattle.rdb_cells.specs.References.{IsPageCell}
+use Rattle.rdb_tree.specs.Order.{AreAscending}
+use Rattle.rdb_tree.specs.Trees.{Tree, root_of, versions_of, cells_of, TreeStands, IsBTree}
+
+-- The head leads to a B-tree, whose nodes stand in page cells, each in its own; the tree's versions are those that are
+-- listed, each once, in ascending order of key, id and serial.
+pub record IsTree (head : ℕ) (said : Sayings) (image : Image) (listed : List CellRef) (nodes : List ℕ) : Type 0 where
+  pub tree : Tree
+  pub leads : image head ≡ Some (index_head_cell (rooted_head (root_of tree)))
+  pub stands : TreeStands image tree
+  pub shape : IsBTree tree
+  pub listed_is : listed ≡ versions_of tree
+  pub nodes_are : nodes ≡ cells_of tree
+  pub once : AreOnce nodes
+  pub paged : (n : ℕ) → IsAmong nodes n → IsPageCell n
+  pub listing : ListsVersions said listed
+  pub ascending : AreAscending said listed
+
+abbrev pub tree_nature : ℕ → ℕ → Nature
+tree_nature of head = record { class = of; head = head; part = tree_part; Stands = IsTree head }
