@@ -1,12 +1,12 @@
 -- Trees in cells: an image holds one forest from its roots on; the steps to a node; a node replaced with all below it; a leaf
 -- that comes or goes; and how deep a forest can be.
-use Rattle.std.proofs.Common.{◌≡◌, ◌<◌, ◌≤◌, ◌⊎◌, ◌++◌, suc, ℕ, List, [], ◌∷◌, length, length-append, get_or, drop, Option, Some, inl, inr, refl, sym, ap, subst, ◌∙◌, arith}
+use Rattle.std.proofs.Common.{◌≢◌, ◌≡◌, ◌<◌, ◌≤◌, ◌⊎◌, ◌++◌, suc, ℕ, List, [], ◌∷◌, length, length-append, get_or, drop, Option, Some, inl, inr, refl, sym, ap, subst, ◌∙◌, arith}
 use Rattle.std.proofs.lemmas.List.{length-map}
 use Rattle.std.specs.Option.{option_map_or}
 use Rattle.rdb_pages.specs.declared.cell.Cell.{Cell}
 use Rattle.rdb_cells.specs.Images.{Image}
-use Rattle.rdb_cells.specs.Links.{IsAmong, AreOnce, AreDisjoint, SameOn, Node, Format, IsFunctional, IsHeld, Stand, StandApart, numbers, Forest, End, Gap, Tree, roots, grown, depth, Step, PastGap, PastTree, Below, graft, ahead, behind, around}
-use Rattle.rdb_cells.proofs.LinkLemmas.{still_stand, among_either, among_front, among_back, once_parts, once_together, few_below, numbers_append, stand_parts, stand_together, grafted}
+use Rattle.rdb_cells.specs.Links.{IsAmong, AreOnce, AreDisjoint, SameOn, Node, Format, IsFunctional, IsHeld, Stand, StandApart, numbers, Forest, End, Gap, Tree, roots, grown, depth, AreTrees, Step, PastGap, PastTree, Below, graft, ahead, behind, around}
+use Rattle.rdb_cells.proofs.LinkLemmas.{still_stand, still_apart, among_either, among_front, among_back, once_parts, once_together, few_below, numbers_append, stand_parts, stand_together, grafted}
 
 no_cons : (n : ℕ) (ns : List ℕ) → [] ≡ n ∷ ns → ⊥
 no_cons n ns e = let many : 0 ≡ suc (length ns) = ap (λ (ms : List ℕ). length ms) e in omega arith
@@ -187,6 +187,35 @@ module _ {A : Type 0} (format : Format A) (before after : Image) (steps : List (
         ]
       ] in
       regrown format before after steps (Tree n e was others) (Tree n d now others) refl apart (λ k within. same k (among_back (numbers (grown others)) rest k within)) tree outside
+
+-- One node rewritten, which leads where it led
+module _ {A : Type 0} (format : Format A) (before after : Image) (steps : List (Step A)) (n : ℕ) (e d : A) (below others : Forest A) (stay : (k : ℕ) → k ≢ n → after k ≡ before k) where
+  pub node_rewritten : IsHeld format after (record { number = n; element = d; links = roots below }) → StandApart format before (grown (graft steps (Tree n e below others))) → StandApart format after (grown (graft steps (Tree n d below others)))
+  node_rewritten held apart =
+      let rest = numbers (grown others) ++ around steps (n ∷ roots others) in
+      let old = node_among format before steps n e below others apart in
+      let same_rest : SameOn rest before after = λ k within. stay k (λ here. elim (among_either (numbers (grown others)) (around steps (n ∷ roots others)) k within) [
+        | inl later ↦ old.not_beside (subst (λ (i : ℕ). IsAmong (numbers (grown others)) i) here later)
+        | inr outside ↦ old.outside k (inl (sym here)) outside
+      ]) in
+      let lower = still_apart format before after (grown below) (λ k within. stay k (λ here. old.not_below (subst (λ (i : ℕ). IsAmong (numbers (grown below)) i) here within))) old.below_stand in
+      let fresh : AreDisjoint (numbers (grown below)) rest = λ k within also. elim (among_either (numbers (grown others)) (around steps (n ∷ roots others)) k also) [
+        | inl later ↦ old.beside k within later
+        | inr outside ↦ old.outside k (inr (among_front (numbers (grown below)) (numbers (grown others)) k within)) outside
+      ] in
+      node_regrown format before after steps n e d below below others apart same_rest held lower old.not_below fresh
+
+-- Trees from their first numbers on
+module _ {A : Type 0} where
+  -- trees with the same roots where some steps lead: the whole has the same roots
+  pub roots_alike : (steps : List (Step A)) (was now : Forest A) → roots now ≡ roots was → roots (graft steps now) ≡ roots (graft steps was)
+  roots_alike [] was now same = same
+  roots_alike (PastGap ∷ steps) was now same = roots_alike steps (Gap was) (Gap now) (ap (λ (ns : List ℕ). 0 ∷ ns) same)
+  roots_alike (PastTree n e below ∷ steps) was now same = roots_alike steps (Tree n e below was) (Tree n e below now) (ap (λ (ns : List ℕ). n ∷ ns) same)
+  roots_alike (Below n e others ∷ steps) was now same = roots_alike steps (Tree n e was others) (Tree n e now others) refl
+
+  pub same_trees : (format : Format A) → IsFunctional format → (image : Image) (first : List ℕ) (trees again : Forest A) → AreTrees format image first trees → AreTrees format image first again → trees ≡ again
+  same_trees format one image first trees again left right = one_forest format one image trees again (sym left.begin ∙ right.begin) left.nodes.stand right.nodes.stand
 
 -- How deep a forest can be
 module _ {A : Type 0} where

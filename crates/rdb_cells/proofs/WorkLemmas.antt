@@ -233,3 +233,16 @@ module _ {X : Type 0} (cells : Ghosts X) where
 
   pub take_is : (o now : Laid X) (w : Work) (at : CellRef) → work cells o ≡ w → now ≡ record o { taken = at } → work cells now ≡ take_work w at
   take_is o now w at was is = ap (work cells) is ∙ ap (λ (v : Work). take_work v at) was
+
+-- a cell is taken, and what it will hold is planned
+module _ (w : Work) (at : CellRef) (cell : Cell) (lowest : IsNextUntaken w.pairs w.below w.class_of w.class w.taken at.number) where
+  planned_then : TakesNone (take_work w at) (put_work (take_work w at) at cell)
+  planned_then = put_takes_none (take_work w at) at cell (taken_spent w at lowest)
+
+  pub took_one : TakesAtMost 1 w (put_work (take_work w at) at cell)
+  took_one = at_most_then 1 0 w (take_work w at) (put_work (take_work w at) at cell) (take_one w at lowest) (none_at_most (take_work w at) (put_work (take_work w at) at cell) planned_then)
+
+  pub took_lowest : TakesLowest w (put_work (take_work w at) at cell) (at.number ∷ [])
+  took_lowest =
+      lowest_then (at.number ∷ []) [] w (take_work w at) (put_work (take_work w at) at cell) (lowest_take w at lowest)
+      (lowest_none (take_work w at) (put_work (take_work w at) at cell) [] planned_then (λ n none. absurd none))

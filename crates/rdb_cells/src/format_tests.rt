@@ -2,8 +2,8 @@
 ghost use Rattle.std.specs.Prelude.{◌≡◌};
 
 use crate::formats::{
-    ClassHead, HashEntry, HashTable, IndexHead, ObjectSlot, PatriciaBranch, PatriciaEntry, RowCell,
-    RtreeNode, TreeNode, VersionHeader,
+    ClassHead, HashEntry, HashTable, IndexHead, ObjectSlot, PatriciaBranch, PatriciaEntry,
+    ROW_CELL_BYTES, RowCell, RtreeNode, TreeNode, VersionHeader,
 };
 use crate::kind::Kind;
 use crate::reference::{NONE, class_head, class_of_head, index_head, is_head, is_page_cell};
@@ -122,6 +122,13 @@ fn a_header_at_its_edges(rt: HostRuntime) {
         VersionHeader::stamp_in(&done),
         Stamp::Done(0x0000_000a_0000_0009)
     );
+    words_are(
+        &rt,
+        &VersionHeader::with_older(&done, at(5)),
+        [
+            0x0502, 0x000101ff, 1, 0xffffffff, 0, 0, 2, 9, 10, 0, 0, 0, 7, 8, 0, 0,
+        ],
+    );
 }
 
 #[test]
@@ -169,6 +176,14 @@ fn a_row_cell_is_filled_with_zeros(rt: HostRuntime) {
         ],
     );
     assert_eq!(rt; RowCell::of_cell(&part.to_cell()), part);
+    for (place, byte) in [(0, 1), (3, 4), (4, 255), (5, 0), (59, 0)] {
+        assert!(rt; place < ROW_CELL_BYTES);
+        assert_eq!(rt;
+            RowCell::byte_in(&part.to_cell(), place),
+            byte,
+            "place {place}"
+        );
+    }
 }
 
 #[test]

@@ -1,5 +1,5 @@
 -- The free cells of a class in a region's memory, as one list.
-use Rattle.std.proofs.Common.{◌≡◌, ◌<◌, ◌≤◌, ◌+◌, ◌-◌, ◌*◌, ◌/◌, ◌%◌, ◌^◌, ◌==◌, ℕ, List, [], ◌∷◌, length, map, Bool, true, false, cond, Option, Some, None, IsSome, is_some, slice_get, sum_by, option_map, inl, inr, refl, sym, ap, subst, ◌∙◌, arith}
+use Rattle.std.proofs.Common.{◌≡◌, ◌<◌, ◌≤◌, ◌+◌, ◌-◌, ◌*◌, ◌/◌, ◌%◌, ◌^◌, ◌==◌, ℕ, List, [], length, Bool, true, false, cond, Option, Some, None, slice_get, sum_by, option_map, refl, sym, ap, subst, ◌∙◌, arith}
 use Rattle.std.specs.Int.{bit_at}
 use Rattle.std.specs.Option.{option_flatten}
 use Rattle.std.proofs.lemmas.Bool.{false≢true, eqb-true, eq-eqb}
@@ -9,12 +9,12 @@ use Rattle.rdb_pages.specs.declared.cell.Cell.{Cell}
 use Rattle.rdb_cells.specs.Images.{IsFree}
 use Rattle.rdb_space.specs.declared.page.PageState.{PageState}
 use Rattle.rdb_space.specs.Bits.{bit_of}
-use Rattle.rdb_space.specs.Memory.{image_of, class_of, is_zero_cell, unowned_in, Agrees, IsMemory, ListsFree, HasFree, IsRoom}
-use Rattle.rdb_space.specs.Space.{PageTable, IsOpen, IsFreeIn, room_in}
+use Rattle.rdb_space.specs.Memory.{image_of, class_of, is_zero_cell, Agrees, IsMemory, ListsFree, HasFree, IsRoom}
+use Rattle.rdb_space.specs.Space.{PageTable, IsOpen, room_in}
 use Rattle.rdb_space.specs.Tables.{free_in}
 use Rattle.rdb_space.proofs.FreeLemmas.{free_to, free_from, one_true}
 use Rattle.rdb_space.proofs.FreeLists.{IsPart, part_none, page_listed, pages_listed, free_in_page, free_numbers, free_places, room_is_listed, free_is_listed}
-use Rattle.rdb_space.proofs.ImageLemmas.{Held, now, state_at, owner_at, page_within, claimed_by, image_page}
+use Rattle.rdb_space.proofs.ImageLemmas.{Held, now, state_at, owner_at}
 use Rattle.rdb_space.proofs.ListLemmas.{one_at}
 
 module _ (held : Held) (space : PageTable) (heads : List (List Cell)) (kept : IsMemory held space heads) (class : ℕ) where

@@ -1,10 +1,10 @@
 -- Which cells of a region's memory are free.
-use Rattle.std.proofs.Common.{◌≡◌, ◌<◌, ◌≤◌, ◌-◌, ◌/◌, ◌%◌, ℕ, List, length, map, Bool, true, false, Option, Some, None, IsSome, is_some, slice_get, option_map, option_and_then, refl, sym, ap, subst, ◌∙◌, arith}
+use Rattle.std.proofs.Common.{◌≡◌, ◌<◌, ◌≤◌, ◌-◌, ◌/◌, ◌%◌, ℕ, List, length, Bool, true, false, Option, Some, None, is_some, slice_get, option_map, option_and_then, refl, sym, ap, subst, ◌∙◌, arith}
 use Rattle.std.specs.Int.{bit_at}
 use Rattle.std.specs.Option.{option_flatten}
 use Rattle.std.proofs.lemmas.Option.{slice_get_within}
 use Rattle.rdb_pages.specs.declared.cell.Cell.{Cell}
-use Rattle.rdb_pages.specs.Pages.{zero_cell, cells_of, cell_of}
+use Rattle.rdb_pages.specs.Pages.{zero_cell, cell_of}
 use Rattle.rdb_cells.specs.Images.{IsFree, IsNextFree}
 use Rattle.rdb_space.specs.declared.page.PageState.{PageState}
 use Rattle.rdb_space.specs.Bits.{bit_of}

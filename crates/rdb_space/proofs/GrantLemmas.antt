@@ -1,13 +1,13 @@
 -- A page of a region's memory is granted.
-use Rattle.std.proofs.Common.{◌≡◌, ◌≢◌, ◌<◌, ◌≤◌, ◌-◌, ◌/◌, ◌^◌, ℕ, zero, suc, List, [], ◌∷◌, length, set, map, replicate, Bool, true, false, Option, Some, None, IsSome, is_some, slice_get, option_map, option_and_then, inl, inr, refl, sym, ap, subst, ◌∙◌, arith, length-set}
+use Rattle.std.proofs.Common.{◌≡◌, ◌<◌, ◌≤◌, ◌-◌, ◌/◌, ◌^◌, ℕ, zero, suc, List, [], ◌∷◌, length, set, map, replicate, false, Option, Some, None, IsSome, is_some, slice_get, option_map, option_and_then, inl, inr, refl, sym, ap, subst, ◌∙◌, arith, length-set}
 use Rattle.std.specs.Int.{bit_at}
 use Rattle.std.specs.Option.{option_flatten}
 use Rattle.std.proofs.Permutation.{which}
 use Rattle.std.proofs.lemmas.Bool.{false≢true}
-use Rattle.std.proofs.lemmas.Option.{slice_get_within, slice_get-map}
+use Rattle.std.proofs.lemmas.Option.{slice_get_within}
 use Rattle.std.proofs.lemmas.Nat.Bits.{bit_at_ones}
 use Rattle.rdb_pages.specs.declared.cell.Cell.{Cell}
-use Rattle.rdb_pages.specs.Pages.{zero_cell, zero_page, page_of, place_of, cells_of, cell_of, IsUnclaimed, IsRegion}
+use Rattle.rdb_pages.specs.Pages.{zero_cell, zero_page, place_of, cells_of, cell_of, IsUnclaimed, IsRegion}
 use Rattle.rdb_pages.proofs.CellLaws.{cell_of-claim_same, cell_of-claim_other}
 use Rattle.rdb_space.specs.declared.page.PageState.{PageState}
 use Rattle.rdb_space.specs.Bits.{bit_of}

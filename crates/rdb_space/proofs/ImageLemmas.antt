@@ -1,28 +1,26 @@
 -- What a region's memory holds, page by page and head by head.
-use Rattle.std.proofs.Common.{◌≡◌, ◌≢◌, ◌<◌, ◌≤◌, ◌⊎◌, ◌+◌, ◌-◌, ◌*◌, ◌/◌, ◌%◌, ◌^◌, ◌==◌, ℕ, zero, suc, List, [], ◌∷◌, length, set, map, replicate, zip, Bool, true, false, cond, Option, Some, None, IsSome, IsSomeAnd, IfSome, IfNone, is_some, slice_get, sum_by, count_by, count_ones, nat_lt, nat_eq, option_map, option_and_then, inl, inr, refl, sym, ap, subst, ◌∙◌, arith, length-set}
+use Rattle.std.proofs.Common.{◌≡◌, ◌<◌, ◌≤◌, ◌⊎◌, ◌-◌, ◌/◌, ◌^◌, ◌==◌, ℕ, suc, List, [], ◌∷◌, length, map, Bool, true, false, cond, Option, Some, None, IsSome, IsSomeAnd, is_some, slice_get, count_by, count_ones, nat_lt, option_map, option_and_then, inl, inr, refl, sym, ap, subst, ◌∙◌, arith}
 use Rattle.std.specs.Int.{bit_at}
 use Rattle.std.specs.Option.{option_flatten}
-use Rattle.std.specs.Cmp.Lexicographic.{pointwise, bytes_decides}
-use Rattle.std.proofs.Permutation.{which}
+use Rattle.std.specs.Cmp.Lexicographic.{bytes_decides}
 use Rattle.std.proofs.lemmas.Bool.{cases_lt, ne_eqb, lt-ltb, le-ltb, false≢true}
 use Rattle.std.proofs.lemmas.Option.{slice_get_within, slice_get-map, slice_get_past}
-use Rattle.std.proofs.lemmas.List.{length-map}
 use Rattle.std.proofs.lemmas.List.Sums.{sum_by-cons}
-use Rattle.std.proofs.lemmas.Nat.Bits.{bit_at_lowest, bit_at-suc, bit_at_ones}
+use Rattle.std.proofs.lemmas.Nat.Bits.{bit_at_lowest, bit_at-suc}
 use lib.Count.{ones_step, ones-ones}
 use native.Mathlib.Nat.{pow-suc}
 use Rattle.rdb_pages.specs.declared.cell.Cell.{Cell}
 use Rattle.rdb_pages.specs.declared.cell.CellRef.{CellRef}
-use Rattle.rdb_pages.specs.Pages.{zero_cell, zero_page, page_of, place_of, cells_of, cell_of, with_cell, IsClaimed, IsUnclaimed, NamesCell, IsRegion}
-use Rattle.rdb_pages.proofs.CellLaws.{cell_named, cell_of-with_cell_same, cell_of-with_cell_other, cell_of-claim_same, cell_of-claim_other}
-use Rattle.rdb_cells.specs.Images.{Image, IsCell, Writes, AreBounded, IsFree, IsNextFree}
-use Rattle.rdb_cells.specs.References.{first_head, class_of_head, IsPageCell, IsHead, IsReference}
+use Rattle.rdb_pages.specs.Pages.{zero_cell, page_of, place_of, cells_of, cell_of, IsClaimed}
+use Rattle.rdb_pages.proofs.CellLaws.{cell_named}
+use Rattle.rdb_cells.specs.Images.{AreBounded}
+use Rattle.rdb_cells.specs.References.{class_of_head}
 use Rattle.rdb_space.specs.declared.page.PageState.{PageState}
 use Rattle.rdb_space.specs.Bits.{bit_of}
-use Rattle.rdb_space.specs.Heads.{head_at, heads_in, with_head, place_of_head}
+use Rattle.rdb_space.specs.Heads.{head_at, place_of_head}
 use Rattle.rdb_space.specs.Memory.{RegionCells, image_of, class_of, is_zero_cell, Agrees, IsMemory}
 use Rattle.rdb_space.specs.Space.{PageTable}
-use Rattle.rdb_space.proofs.ListLemmas.{at_set_same, at_set_other, there, one_at}
+use Rattle.rdb_space.proofs.ListLemmas.{there}
 
 abbrev pub Held : Type 0
 Held = List (Option (List Cell))

@@ -1,5 +1,5 @@
 -- Sets of pages, word by word.
-use Rattle.std.proofs.Common.{◌≡◌, ◌≢◌, ◌<◌, ◌≤◌, ◌+◌, ◌*◌, ◌/◌, ◌%◌, ℕ, List, length, set, replicate, slice_index, Bool, refl, sym, ap, subst, ◌∙◌, arith, inl, inr, length-set}
+use Rattle.std.proofs.Common.{◌≡◌, ◌≢◌, ◌<◌, ◌≤◌, ◌+◌, ◌*◌, ◌/◌, ◌%◌, ℕ, List, length, set, slice_index, Bool, refl, sym, ap, ◌∙◌, arith, inl, inr, length-set}
 use Rattle.std.specs.Int.{bit_at}
 use Rattle.std.proofs.Permutation.{which}
 use Rattle.std.proofs.lemmas.Bool.{cases_lt}

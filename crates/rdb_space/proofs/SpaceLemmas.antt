@@ -1,9 +1,9 @@
 -- Owners and free cells, page by page.
-use Rattle.std.proofs.Common.{[], set, length-set, ◌≡◌, ◌<◌, ◌≤◌, ◌+◌, ◌-◌, ◌*◌, ◌/◌, ◌%◌, ◌^◌, ◌&&◌, ℕ, List, length, slice_get, Option, Some, None, IfSome, IfNone, Bool, true, false, nat_lt, refl, sym, ap, subst, ◌∙◌, arith, inl, inr}
+use Rattle.std.proofs.Common.{[], set, length-set, ◌≡◌, ◌<◌, ◌≤◌, ◌+◌, ◌-◌, ◌*◌, ◌/◌, ◌%◌, ℕ, List, length, slice_get, Option, Some, None, IfSome, IfNone, Bool, true, false, nat_lt, refl, sym, ap, subst, ◌∙◌, arith, inl, inr}
 use Rattle.std.proofs.lemmas.Bool.{cases_lt, and_parts, and_from, eq-eqb, eqb-true, lt-ltb, ltb-true, false≢true}
 use Rattle.std.proofs.lemmas.Option.{slice_get_within}
 use Rattle.rdb_pages.specs.declared.cell.CellRef.{CellRef}
-use Rattle.rdb_pages.specs.Pages.{page_of, place_of, ref_of}
+use Rattle.rdb_pages.specs.Pages.{page_of, place_of}
 use Rattle.std.specs.Option.{option_map_or}
 use Rattle.std.proofs.lemmas.Nat.Bits.{bit_at-zero}
 use Rattle.rdb_space.specs.Bits.{bit_of}

@@ -1,14 +1,14 @@
 -- What is kept of each class, as a page of one of them changes.
-use Rattle.std.proofs.Common.{◌≡◌, ◌≢◌, ◌<◌, ◌≤◌, ◌⊎◌, ◌+◌, ◌-◌, ◌*◌, ◌/◌, ◌%◌, ◌^◌, ◌==◌, ◌&&◌, ℕ, zero, suc, List, [], ◌∷◌, length, set, replicate, slice_index, Bool, true, false, cond, Option, Some, None, IsSome, slice_get, sum_by, count_ones, nat_lt, option_map, inl, inr, refl, sym, ap, subst, ◌∙◌, arith, length-set}
+use Rattle.std.proofs.Common.{◌≡◌, ◌≢◌, ◌<◌, ◌≤◌, ◌⊎◌, ◌+◌, ◌-◌, ◌*◌, ◌/◌, ◌%◌, ◌^◌, ◌&&◌, ℕ, zero, suc, List, [], ◌∷◌, length, set, replicate, slice_index, Bool, true, false, cond, Option, Some, None, IsSome, slice_get, sum_by, count_ones, nat_lt, inl, inr, refl, sym, ap, subst, ◌∙◌, arith, length-set}
 use Rattle.std.specs.Int.{bit_at}
 use Rattle.std.specs.Option.{option_map_or}
 use Rattle.std.proofs.Permutation.{which}
-use Rattle.std.proofs.lemmas.Bool.{cases_lt, eq-eqb, ne_eqb, lt-ltb, false≢true, and_parts, and_from, eqb-true}
-use Rattle.std.proofs.lemmas.List.{get_or-replicate, length-replicate, get_or_past}
-use Rattle.std.proofs.lemmas.List.Sums.{sum_by-cons, sum_by-le}
+use Rattle.std.proofs.lemmas.Bool.{eq-eqb, ne_eqb, false≢true}
+use Rattle.std.proofs.lemmas.List.{length-replicate}
+use Rattle.std.proofs.lemmas.List.Sums.{sum_by-cons}
 use Rattle.std.proofs.lemmas.List.Folds.{sum_by-replicate}
 use Rattle.std.proofs.lemmas.Nat.Bits.{bit_at-zero}
-use Rattle.std.proofs.lemmas.Option.{slice_get_within, slice_get-get_or}
+use Rattle.std.proofs.lemmas.Option.{slice_get_within}
 use lib.Count.{ones-le, ones-ones}
 use Rattle.rdb_space.specs.declared.page.PageState.{PageState}
 use Rattle.rdb_space.specs.declared.class_pages.ClassPages.{ClassPages}
@@ -16,7 +16,6 @@ use Rattle.rdb_space.specs.Bits.{bit_of}
 use Rattle.rdb_space.specs.PageSet.{member_bit, words_for, Puts}
 use Rattle.rdb_space.specs.Space.{room_in, room_of, unowned}
 use Rattle.rdb_space.specs.Tables.{OwnsBelow, owns, free_in, is_open, free_of, with_room_of, IsTable}
-use Rattle.rdb_space.proofs.BitLemmas.{some_set}
 use Rattle.rdb_space.proofs.ListLemmas.{at_set_same, at_set_other, there, one_at, in_replicate, of_replicate, sum_set}
 
 -- a page of the class

@@ -1,5 +1,5 @@
 -- A cell of a region's memory is written.
-use Rattle.std.proofs.Common.{◌≡◌, ◌≢◌, ◌<◌, ◌≤◌, ◌-◌, ◌*◌, ◌+◌, ◌/◌, ◌%◌, ℕ, List, [], length, set, map, Bool, true, false, Option, Some, None, IsSome, is_some, slice_get, option_map, option_and_then, inl, inr, refl, sym, ap, subst, ◌∙◌, arith, length-set}
+use Rattle.std.proofs.Common.{◌≡◌, ◌≢◌, ◌<◌, ◌≤◌, ◌-◌, ◌/◌, ℕ, List, [], length, set, map, Bool, Option, Some, None, IsSome, is_some, slice_get, option_map, option_and_then, inl, inr, refl, sym, ap, subst, ◌∙◌, arith, length-set}
 use Rattle.std.specs.Int.{bit_at}
 use Rattle.std.specs.Option.{option_flatten, option_map_or}
 use Rattle.std.proofs.Permutation.{which}
@@ -7,7 +7,7 @@ use Rattle.std.proofs.lemmas.Bool.{false≢true}
 use Rattle.std.proofs.lemmas.Option.{slice_get_within, slice_get-map}
 use Rattle.rdb_pages.specs.declared.cell.Cell.{Cell}
 use Rattle.rdb_pages.specs.declared.cell.CellRef.{CellRef}
-use Rattle.rdb_pages.specs.Pages.{page_of, place_of, cells_of, cell_of, with_cell, NamesCell, IsClaimed, IsRegion}
+use Rattle.rdb_pages.specs.Pages.{page_of, place_of, with_cell, NamesCell, IsRegion}
 use Rattle.rdb_pages.proofs.CellLaws.{cell_of-with_cell_same, cell_of-with_cell_other, length-with_cell}
 use Rattle.rdb_pages.proofs.Regions.{claimed_page}
 use Rattle.rdb_cells.specs.Images.{IsCell, Writes}
@@ -18,7 +18,7 @@ use Rattle.rdb_space.specs.Heads.{head_at, heads_in, with_head, place_of_head}
 use Rattle.rdb_space.specs.Memory.{RegionCells, image_of, class_of, is_zero_cell, Agrees, IsMemory}
 use Rattle.rdb_space.specs.Space.{PageTable, Follows, Marks, IsOwned}
 use Rattle.rdb_space.proofs.ListLemmas.{at_set_same, at_set_other, there, one_at, same_list}
-use Rattle.rdb_space.proofs.ImageLemmas.{Held, now, sort, image_page, image_head, class_page, class_head, owner_at, state_at, held_at, claimed_by, page_within, head_there}
+use Rattle.rdb_space.proofs.ImageLemmas.{Held, now, sort, image_page, image_head, class_page, class_head, state_at, claimed_by, head_there}
 
 abbrev owner_of : PageState → Option ℕ
 owner_of p = p.owner

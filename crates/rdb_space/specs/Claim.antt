@@ -1,5 +1,5 @@
 -- How many cells an operation may take.
-use Rattle.std.specs.Prelude.{ℕ, ◌+◌, ◌/◌, ◌<◌, length, slice_get, sum_by}
+use Rattle.std.specs.Prelude.{ℕ, ◌+◌, ◌/◌, ◌<◌, length, sum_by}
 use Rattle.rdb_base.specs.declared.operation.Op.{Op}
 use Rattle.rdb_base.specs.declared.operation.Op.TheVariants as op
 use Rattle.rdb_schema.specs.declared.schema.IndexKind.{IndexKind}

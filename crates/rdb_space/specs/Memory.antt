@@ -4,8 +4,7 @@ use Rattle.std.specs.Int.{bit_at}
 use Rattle.std.specs.Option.{option_flatten, option_map}
 use Rattle.std.specs.Cmp.Lexicographic.{pointwise}
 use Rattle.rdb_pages.specs.declared.cell.Cell.{Cell}
-use Rattle.rdb_pages.specs.declared.cell.CellRef.{CellRef}
-use Rattle.rdb_pages.specs.Pages.{IsRegion, page_cells, zero_cell, cells_of, cell_of, page_of}
+use Rattle.rdb_pages.specs.Pages.{IsRegion, page_cells, zero_cell, cells_of, cell_of}
 use Rattle.std.specs.Ordering.{nat_cmp}
 use Rattle.std.specs.List.Sorted.{IsStrictlySortedBy}
 use Rattle.rdb_cells.specs.Images.{Image, IsFree}

@@ -1,5 +1,5 @@
 -- Page owners and free maps.
-use Rattle.std.specs.Prelude.{◌≡◌, ◌≢◌, ◌<◌, ◌≤◌, ℕ, ◌-◌, ◌^◌, ◌/◌, ◌%◌, ◌==◌, List, length, slice_get, Option, Some, None, Bool, count_ones, IsSome, if◌then◌else◌}
+use Rattle.std.specs.Prelude.{◌≡◌, ◌≢◌, ◌<◌, ℕ, ◌-◌, ◌^◌, ◌/◌, ◌%◌, ◌==◌, List, length, slice_get, Option, Some, None, Bool, count_ones, IsSome, if◌then◌else◌}
 use Rattle.std.specs.Int.{bit_at}
 use Rattle.rdb_pages.specs.declared.cell.CellRef.{CellRef}
 use Rattle.rdb_pages.specs.Pages.{page_cells, page_of, place_of}

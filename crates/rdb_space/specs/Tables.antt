@@ -1,6 +1,5 @@
 -- How the counts and sets of pages that are kept for each class agree with the pages.
-use Rattle.std.specs.Prelude.{◌≡◌, ◌<◌, ◌≤◌, ℕ, ◌+◌, ◌*◌, ◌-◌, ◌^◌, ◌==◌, ◌&&◌, List, [], length, slice_get, sum_by, Option, Some, None, Bool, true, false, count_ones, nat_lt, IsSome, if◌then◌else◌}
-use Rattle.std.specs.Int.{bit_at}
+use Rattle.std.specs.Prelude.{◌≡◌, ◌<◌, ◌≤◌, ℕ, ◌*◌, ◌^◌, ◌==◌, ◌&&◌, List, [], length, slice_get, sum_by, Option, Some, None, Bool, false, count_ones, nat_lt, IsSome, if◌then◌else◌}
 use Rattle.std.specs.Option.{option_map_or}
 use Rattle.rdb_pages.specs.declared.cell.CellRef.{CellRef}
 use Rattle.rdb_pages.specs.Pages.{max_pages, page_cells, ref_of}

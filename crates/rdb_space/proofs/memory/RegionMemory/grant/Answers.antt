@@ -1,9 +1,9 @@
-use Rattle.std.proofs.Common.{◌≡◌, ℕ, List, Option, Some, map, set, slice_set, sym, ap, subst, ◌∙◌}
+use Rattle.std.proofs.Common.{ℕ, List, Option, Some, map, set, sym, ap, subst, ◌∙◌}
 use Rattle.rdb_pages.specs.Pages.{zero_page, IsRegion}
 use Rattle.rdb_space.specs.declared.page.PageState.{PageState}
 use Rattle.rdb_space.specs.Memory.{RegionCells, IsMemory, HasUnowned, IsLowestWithout, GrantsPage}
 use Rattle.rdb_space.specs.Space.{PageTable, granted_to}
-use Rattle.rdb_space.proofs.GrantLemmas.{not_all_owned, unclaimed, granted, lowest_without, map_set, grants, space_now, held_now}
+use Rattle.rdb_space.proofs.GrantLemmas.{not_all_owned, unclaimed, granted, lowest_without, map_set, grants, held_now}
 use Rattle.rdb_space.proofs.ImageLemmas.{Held, now}
 use Rattle.rdb_space.proofs.memory.RegionMemory.grant.Goals as goal
 

@@ -1,7 +1,5 @@
-use Rattle.std.proofs.Common.{◌≡◌, ℕ, List, Option, None, map, replicate, ap, ◌∙◌}
-use Rattle.rdb_pages.specs.declared.cell.Cell.{Cell}
+use Rattle.std.proofs.Common.{ℕ, None, map, replicate, ap, ◌∙◌}
 use Rattle.rdb_space.specs.declared.page.PageState.{PageState}
-use Rattle.rdb_space.specs.Heads.{heads_of}
 use Rattle.rdb_space.specs.Space.{PageTable}
 use Rattle.rdb_space.proofs.GrantLemmas.{map_unowned}
 use Rattle.rdb_space.proofs.memory.RegionMemory.over.Goals as goal

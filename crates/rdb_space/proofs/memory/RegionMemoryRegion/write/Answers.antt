@@ -1,4 +1,4 @@
-use Rattle.std.proofs.Common.{◌≡◌, ◌≤◌, ℕ, List, IsSome, Option, map, sym, ap, subst, ◌∙◌, arith}
+use Rattle.std.proofs.Common.{◌≡◌, ℕ, List, IsSome, Option, map, sym, ap, subst, ◌∙◌}
 use Rattle.rdb_pages.specs.declared.cell.Cell.{Cell}
 use Rattle.rdb_pages.specs.Pages.{IsRegion}
 use Rattle.rdb_cells.specs.Images.{IsCell, Writes}

@@ -1,8 +1,6 @@
-use Rattle.std.proofs.Common.{◌≡◌, ◌<◌, ◌≤◌, ◌^◌, ℕ, List, length, slice_get, slice_set, Option, Some, IsSome, inl, refl, sym, ap, subst, ◌∙◌, arith}
+use Rattle.std.proofs.Common.{◌≡◌, ℕ, length, slice_get, slice_set, Option, Some, IsSome, inl, refl, sym, subst, ◌∙◌, arith}
 use Rattle.std.proofs.lemmas.Option.{slice_get_read, slice_get_within}
 use Rattle.rdb_pages.specs.Pages.{page_of}
-use Rattle.rdb_space.specs.declared.page.PageState.{PageState}
-use Rattle.rdb_space.specs.declared.class_pages.ClassPages.{ClassPages}
 use Rattle.rdb_space.specs.Space.{PageTable, Follows}
 use Rattle.rdb_space.proofs.SpaceLemmas.{follows}
 use Rattle.rdb_space.proofs.TableLemmas.{small_count, counted, followed}

@@ -1,5 +1,4 @@
-use Rattle.std.proofs.Common.{List, subst, ap, arith}
-use Rattle.rdb_space.specs.declared.page.PageState.{PageState}
+use Rattle.std.proofs.Common.{subst, arith}
 use Rattle.rdb_space.specs.Space.{PageTable, IsLowestUnowned, AllOwned}
 use Rattle.rdb_space.proofs.SpaceLemmas.{lowest_unowned, all_owned}
 use Rattle.rdb_space.proofs.space.Space.lowest.Goals as goal

@@ -1,4 +1,4 @@
-use Rattle.std.proofs.Common.{◌≡◌, ◌+◌, ◌-◌, ◌*◌, length, sum_by, sym, subst, arith}
+use Rattle.std.proofs.Common.{◌≡◌, ◌+◌, ◌-◌, ◌*◌, sum_by, sym, subst, arith}
 use Rattle.rdb_space.specs.Space.{PageTable, room_in}
 use Rattle.rdb_space.specs.Tables.{free_in}
 use Rattle.rdb_space.proofs.TableLemmas.{room_is}
