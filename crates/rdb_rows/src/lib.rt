@@ -1,10 +1,11 @@
-//! The versions of objects in cells: a header for each, and its row in a chain of row cells. Also the keys that indexes go by,
-//! read from the cells as they stand.
+//! The versions of objects in cells: a header for each, and its row in a chain of row cells.
 #![tactic(auto)]
 
 mod label;
 mod laws;
 mod rows;
+#[cfg(test)]
+mod tests;
 mod versions;
 
 pub use label::Label;

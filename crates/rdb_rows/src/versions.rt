@@ -111,11 +111,8 @@ pub fn change_older<C: Cells>(cells: &mut Overlay<C>, version: CellRef, older: C
     ensures room { cells.new.plan.room ≡ cells.old.plan.room }
     ensures below { (cells.new.cells ≡ cells.old.cells) × (cells.new.class ≡ cells.old.class) }
 {
-    let header = VersionHeader {
-        older,
-        ..VersionHeader::of_cell(cells.planned(version))
-    };
-    cells.put(version, header.to_cell());
+    let header = VersionHeader::with_older(cells.planned(version), older);
+    cells.put(version, header);
 }
 
 /// Returns the header's cell with another stamp: where it is written, the same version stands with that stamp.
