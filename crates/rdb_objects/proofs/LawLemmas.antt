@@ -1,0 +1,45 @@
+-- What objects in cells rest on, and that a version is of one object.
+use Rattle.std.proofs.Common.{◌≡◌, ◌≢◌, ◌<◌, ◌⊎◌, zero, suc, ℕ, List, [], ◌∷◌, Option, Some, inl, inr, refl, sym, ap, subst, ◌∙◌, arith}
+use Rattle.std.specs.List.{Contains}
+use Rattle.rdb_pages.specs.declared.cell.CellRef.{CellRef}
+use Rattle.rdb_cells.specs.Images.{Image}
+use Rattle.rdb_cells.specs.Links.{IsAmong}
+use Rattle.rdb_cells.proofs.ListedLemmas.{contains_first, contains_later}
+use Rattle.rdb_objects.specs.Changes.{RestsOnObjects, SameLinks, OfOneObject}
+use Rattle.rdb_objects.specs.Objects.{Object, newest_of, versions_of}
+use Rattle.rdb_objects.specs.Slots.{Slot, cells_of, IsOneOf, IsVersion, AreVersions, HoldsObjects}
+use Rattle.rdb_objects.proofs.ChainLemmas.{one_header, chain_member, contained}
+use Rattle.rdb_objects.proofs.TreeLemmas.{in_cells}
+use Rattle.rdb_objects.proofs.TreeSteps.{tree_beside}
+
+still_versions : (before after : Image) (id : ℕ) (vs : List CellRef) → ((v older : CellRef) → Contains vs v → IsVersion before id v older → IsVersion after id v older) → AreVersions before id vs → AreVersions after id vs
+still_versions before after id [] same are = tt
+still_versions before after id (v ∷ vs) same are = (same v (newest_of vs) (contains_first v vs) are.0, still_versions before after id vs (λ u older within. same u older (contains_later v u vs within)) are.1)
+
+pub rests : RestsOnObjects
+rests before after class objects cells holds same links = record {
+  slots = holds.slots;
+  tree = tree_beside before after class holds.slots holds.tree (same _ (inl refl))
+      (λ s one. same s.number (inr (subst (λ (ns : List ℕ). IsAmong ns s.number) (sym holds.cells_are) (in_cells holds.slots s one))));
+  versions = λ s one.
+      let was = holds.versions s one in
+      (was.0, still_versions before after s.id s.versions (λ v older within. links s.id v older (subst (λ (vs : List CellRef). Contains vs v) (sym (holds.objects_are.told s one)) within)) was.1);
+  objects_are = holds.objects_are;
+  cells_are = holds.cells_are;
+}
+
+-- the header of an object's version
+pub version_of : (image : Image) (class : ℕ) (objects : List Object) (cells : List ℕ) → HoldsObjects image class objects cells → (id : ℕ) (version : CellRef) → Contains (versions_of objects id) version → (v : CellRef) × (older : CellRef) × IsVersion image id v older × (v.number ≡ version.number)
+version_of image class objects cells holds id version within = elim (holds.objects_are.slotted id) [
+  | inl none ↦ let gone = contained [] version (subst (λ (vs : List CellRef). Contains vs version) none within) in absurd gone
+  | inr slot ↦
+      let told : versions_of objects id ≡ slot.0.versions = ap (versions_of objects) (sym slot.2) ∙ holds.objects_are.told slot.0 slot.1 in
+      let stand = subst (λ (k : ℕ). AreVersions image k slot.0.versions) slot.2 (holds.versions slot.0 slot.1).1 in
+      chain_member image id slot.0.versions version.number stand (contained slot.0.versions version (subst (λ (vs : List CellRef). Contains vs version) told within))
+]
+
+pub of_one : OfOneObject
+of_one image class objects cells holds a b version first second =
+    let one = version_of image class objects cells holds a version first in
+    let other = version_of image class objects cells holds b version second in
+    (one_header image a b one.0 other.0 one.1 other.1 one.2 other.2 (one.3 ∙ sym other.3)).0

@@ -1,0 +1,13 @@
+pub mod TreeLemmas
+pub mod WalkLemmas
+pub mod ObjectLemmas
+pub mod TreeChanges
+pub mod TreeSteps
+pub mod Adding
+pub mod ChainLemmas
+pub mod OneTree
+pub mod LawLemmas
+pub mod Removing
+pub mod RemovingSlots
+pub mod Moving
+pub mod Removable

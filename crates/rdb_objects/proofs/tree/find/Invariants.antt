@@ -1,0 +1,7 @@
+use Rattle.std.proofs.Common.{ℕ, List}
+use Rattle.rdb_objects.specs.Slots.{Slot, AreSlots}
+use Rattle.rdb_objects.proofs.WalkLemmas.{IsSought}
+use Rattle.rdb_objects.proofs.tree.find.Given as goal
+
+abbrev pub invariant-loop : goal.invariant-loop
+invariant-loop g l = (slots : List Slot) → AreSlots (g.C.Cells.image l.cells) l.fn.class slots → IsSought slots l.id l.counter l.digits l.spot

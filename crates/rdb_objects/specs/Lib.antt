@@ -1,0 +1,5 @@
+pub mod Objects
+pub mod Slots
+pub mod Changes
+pub mod Walks
+pub mod Chains

@@ -1,0 +1,32 @@
+//! What every list of objects in cells keeps to. Each call does nothing.
+ghost use Rattle.rdb_objects.specs.Changes.{RestsOnObjects, StartsEmpty, HoldsOne, HoldsInAnyOrder, OfOneObject};
+
+/// What objects a class has rests on its head, its slots and the links of its headers alone.
+pub fn objects_rest_on_their_cells()
+    ensures { RestsOnObjects }
+{
+}
+
+/// A class whose head is empty has no object and no slot.
+pub fn an_empty_head_holds_nothing()
+    ensures { StartsEmpty }
+{
+}
+
+/// The cells of a class hold one list of objects, but for its order.
+pub fn a_class_holds_one_list()
+    ensures { HoldsOne }
+{
+}
+
+/// The objects may be listed in any order.
+pub fn objects_go_in_any_order()
+    ensures { HoldsInAnyOrder }
+{
+}
+
+/// A version is one of one object alone.
+pub fn a_version_is_of_one_object()
+    ensures { OfOneObject }
+{
+}

@@ -1,0 +1,14 @@
+//! The objects of a class in cells: a digital tree of slots from ids to objects, and for each object the chain of its
+//! versions. It reads cells through `Cells`, and writes to the plan of an `Overlay` alone.
+#![tactic(auto)]
+
+mod chain;
+mod laws;
+mod objects;
+mod tree;
+
+pub use laws::{
+    a_class_holds_one_list, a_version_is_of_one_object, an_empty_head_holds_nothing,
+    objects_go_in_any_order, objects_rest_on_their_cells,
+};
+pub use objects::Objects;
