@@ -1,1 +1,19 @@
-
+pub mod ListPlaces
+pub mod NodeLemmas
+pub mod ShapeLemmas
+pub mod WalkLemmas
+pub mod KeyTests
+pub mod GatherLemmas
+pub mod TableLemmas
+pub mod ElsewhereLemmas
+pub mod AroundLemmas
+pub mod EqualLemmas
+pub mod FrameLemmas
+pub mod EditLemmas
+pub mod ChangeLemmas
+pub mod FinishLemmas
+pub mod PutLemmas
+pub mod NewTableLemmas
+pub mod EmptyLemmas
+pub mod ListLemmas
+pub mod RemoveLemmas

@@ -1,5 +1,5 @@
 -- A hash index meets the laws of an index. No tactic stands here.
-use Rattle.std.specs.Prelude.{◌≡◌, ℕ, zero, suc, List, [], ◌∷◌, ◌++◌, replicate, slice_get, Option, Some, None, IsSome, is_some, Contains, refl}
+use Rattle.std.specs.Prelude.{◌≡◌, ◌≤◌, ◌*◌, ℕ, zero, suc, List, [], ◌∷◌, ◌++◌, length, replicate, slice_get, Option, Some, None, IsSome, is_some, Contains, refl}
 use Rattle.std.specs.Option.{option_map_or}
 use mathlib.Core.Bool.{false≢true}
 use mathlib.Core.Logic.{inl, inr}
@@ -11,12 +11,13 @@ use Rattle.rdb_cells.specs.declared.kind.Kind.TheVariants as kind
 use Rattle.rdb_cells.specs.HashFormat.{table_buckets}
 use Rattle.rdb_cells.specs.HeadFormat.{index_head_cell, empty_index_head, index_roots}
 use Rattle.rdb_cells.specs.Images.{Image}
-use Rattle.rdb_cells.specs.Index.{IsIndexNode, StartsEmpty, ListsOnce, HasIndexCells, RestsOnNodes}
+use Rattle.rdb_cells.specs.Index.{IsIndexNode, StartsEmpty, ListsOnce, HasIndexCells, HasFewNodes, RestsOnNodes}
 use Rattle.rdb_cells.specs.Keys.{Sayings, Version, SaySame}
 use Rattle.rdb_cells.specs.Links.{IsAmong, AreOnce, SameOn, Node, IsHeld, Placed, numbers}
 use Rattle.rdb_cells.specs.LinkLaws.{still_apart, node_of}
 use Rattle.rdb_cells.specs.PlainLaws.{lists_again}
 use Rattle.rdb_cells.specs.Words.{HasKind}
+use Rattle.rdb_hash.specs.FewNodes.{few_nodes}
 use Rattle.rdb_hash.specs.Shape.{Held, Buckets, Entry, Table, no_table, IsWritten, AreEntriesOf, IsHashed, AreHashed, IsTable, IsHash, bucket_number, versions_of, version_in, hash_nodes, hash_nature}
 
 -- each element of a list of one thing is that
@@ -36,7 +37,7 @@ empty_shaped place = record {
 }
 
 -- keys that say the same of versions say the same of their hashes
-hashed_again : (said again : Sayings) (nodes : List (Node Held)) → SaySame said again (versions_of nodes) → AreHashed said nodes → AreHashed again nodes
+pub hashed_again : (said again : Sayings) (nodes : List (Node Held)) → SaySame said again (versions_of nodes) → AreHashed said nodes → AreHashed again nodes
 hashed_again said again [] same hashed = tt
 hashed_again said again (x ∷ xs) same hashed = by_element x.element same hashed.0 (λ same_there. hashed_again said again xs same_there hashed.1)
   where
@@ -59,11 +60,13 @@ module _ (class head : ℕ) where
   pub hash_starts_empty : StartsEmpty (hash_nature class head)
   hash_starts_empty said image empty = record {
     tables = replicate index_roots no_table;
-    leads = record { cell = index_head_cell empty_index_head; here = empty; kind = refl; leads = refl };
-    apart = record { stand = tt; once = tt };
-    shaped = λ place t at. subst (IsTable place) (one_thing index_roots no_table place t at) (empty_shaped place);
+    stand = record {
+      leads = record { cell = index_head_cell empty_index_head; here = empty; kind = refl; leads = refl };
+      apart = record { stand = tt; once = tt };
+      shaped = λ place t at. subst (IsTable place) (one_thing index_roots no_table place t at) (empty_shaped place);
+      paged = λ n none. absurd none;
+    };
     hashed = tt;
-    paged = λ n none. absurd none;
     listed_is = refl;
     nodes_are = refl;
     versions = record { keyed = λ r within. absurd (none_in r within); once = λ r within. absurd (none_in r within); differ = λ q r within. absurd (none_in q within) };
@@ -74,22 +77,32 @@ module _ (class head : ℕ) where
 
   pub hash_has_index_cells : HasIndexCells (hash_nature class head)
   hash_has_index_cells said image listed nodes hash = record {
-    head = (hash.leads.cell, hash.leads.here, hash.leads.kind);
+    head = (hash.stand.leads.cell, hash.stand.leads.here, hash.stand.leads.kind);
     nodes = λ n within.
-        let node = node_of IsWritten image (hash_nodes hash.tables) n hash.apart.stand (subst (λ (ns : List ℕ). IsAmong ns n) hash.nodes_are within) in
+        let node = node_of IsWritten image (hash_nodes hash.tables) n hash.stand.apart.stand (subst (λ (ns : List ℕ). IsAmong ns n) hash.nodes_are within) in
         subst (IsIndexNode image) node.1 (node_kind image node.0 node.2);
-    once = subst AreOnce (sym hash.nodes_are) hash.apart.once;
+    once = subst AreOnce (sym hash.nodes_are) hash.stand.apart.once;
   }
 
+  pub hash_has_few_nodes : HasFewNodes (hash_nature class head)
+  hash_has_few_nodes said image listed nodes hash =
+      subst (λ (ns : List ℕ). length ns ≤ 2 * length listed) (sym hash.nodes_are)
+      (subst (λ (rs : List CellRef). length (numbers (hash_nodes hash.tables)) ≤ 2 * length rs) (sym hash.listed_is)
+      (few_nodes hash.tables (λ place t at. (place, hash.stand.shaped place t at))).few)
+
   pub hash_rests_on_nodes : RestsOnNodes (hash_nature class head)
-  hash_rests_on_nodes said image listed nodes hash again after says same = record {
-    tables = hash.tables;
-    leads = record { cell = hash.leads.cell; here = same head (inl refl) ∙ hash.leads.here; kind = hash.leads.kind; leads = hash.leads.leads };
-    apart = still_apart IsWritten image after (hash_nodes hash.tables) (λ n within. same n (inr (subst (λ (ns : List ℕ). IsAmong ns n) (sym hash.nodes_are) within))) hash.apart;
-    shaped = hash.shaped;
-    hashed = hashed_again said again (hash_nodes hash.tables) (subst (SaySame said again) hash.listed_is says) hash.hashed;
-    paged = hash.paged;
-    listed_is = hash.listed_is;
-    nodes_are = hash.nodes_are;
-    versions = lists_again said again listed says hash.versions;
-  }
+  hash_rests_on_nodes said image listed nodes hash again after says same =
+      let nodes_same : SameOn (numbers (hash_nodes hash.tables)) image after = λ n within. same n (inr (subst (λ (ns : List ℕ). IsAmong ns n) (sym hash.nodes_are) within)) in
+      record {
+        tables = hash.tables;
+        stand = record {
+          leads = record { cell = hash.stand.leads.cell; here = same head (inl refl) ∙ hash.stand.leads.here; kind = hash.stand.leads.kind; leads = hash.stand.leads.leads };
+          apart = still_apart IsWritten image after (hash_nodes hash.tables) nodes_same hash.stand.apart;
+          shaped = hash.stand.shaped;
+          paged = hash.stand.paged;
+        };
+        hashed = hashed_again said again (hash_nodes hash.tables) (subst (SaySame said again) hash.listed_is says) hash.hashed;
+        listed_is = hash.listed_is;
+        nodes_are = hash.nodes_are;
+        versions = lists_again said again listed says hash.versions;
+      }

@@ -114,15 +114,19 @@ pub record LeadsTo (image : Image) (head : ℕ) (tables : List Table) : Type 0 w
   pub kind : IsOfKind cell kind.IndexHead
   pub leads : map (λ r. r.number) (index_head_in cell).roots ≡ map (λ t. t.number) tables
 
--- the head leads to tables of entries of these versions, which stand in these cells, and the versions are listed as an index
--- lists them
-pub record IsHash (head : ℕ) (said : Sayings) (image : Image) (listed : List CellRef) (nodes : List ℕ) : Type 0 where
-  pub tables : List Table
+-- the head leads to these tables, which stand in page cells with the entries of their buckets
+pub record AreTables (image : Image) (head : ℕ) (tables : List Table) : Type 0 where
   pub leads : LeadsTo image head tables
   pub apart : StandApart IsWritten image (hash_nodes tables)
   pub shaped : (place : ℕ) (t : Table) → slice_get tables place ≡ Some t → IsTable place t
-  pub hashed : AreHashed said (hash_nodes tables)
   pub paged : (n : ℕ) → IsAmong (numbers (hash_nodes tables)) n → IsPageCell n
+
+-- the tables have entries of these versions, with the hashes of their keys, and stand in these cells; and the versions are
+-- listed as an index lists them
+pub record IsHash (head : ℕ) (said : Sayings) (image : Image) (listed : List CellRef) (nodes : List ℕ) : Type 0 where
+  pub tables : List Table
+  pub stand : AreTables image head tables
+  pub hashed : AreHashed said (hash_nodes tables)
   pub listed_is : listed ≡ versions_of (hash_nodes tables)
   pub nodes_are : nodes ≡ numbers (hash_nodes tables)
   pub versions : ListsVersions said listed

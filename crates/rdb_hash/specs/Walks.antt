@@ -1,14 +1,25 @@
 -- What a walk along the entries of one bucket finds.
-use Rattle.std.specs.Prelude.{◌≡◌, ◌⊎◌, ◌++◌, ℕ, List, [], ◌∷◌, filter, Contains}
-use Rattle.rdb_base.specs.declared.value.Value.{Value}
+use Rattle.std.specs.Prelude.{◌≡◌, ◌⊎◌, ◌++◌, ℕ, List, [], ◌∷◌, Contains, slice_get, Some}
 use Rattle.rdb_pages.specs.declared.cell.CellRef.{CellRef}
 use Rattle.rdb_cells.specs.Images.{Image}
 use Rattle.rdb_cells.specs.Keys.{Meaning, says}
 use Rattle.rdb_cells.specs.Links.{IsAmong, Placed, segment, start, numbers, IsChain}
 use Rattle.rdb_cells.specs.References.{IsPageCell}
 use Rattle.rdb_hash.specs.declared.chain.Found.{Found}
-use Rattle.rdb_hash.specs.Lookup.{has_key}
-use Rattle.rdb_hash.specs.Shape.{Held, Entry, IsWritten, AreEntriesOf, AreHashed, versions_of}
+use Rattle.rdb_hash.specs.Shape.{Held, Entry, Table, AreTables, IsWritten, AreEntriesOf, AreHashed, bucket_nodes, versions_of}
+
+-- the bucket at a place of a table
+abbrev pub IsBucketAt : List Table → ℕ → ℕ → List (Placed Held) → Type 0
+IsBucketAt tables table place b = (t : Table) × (slice_get tables table ≡ Some t) × (slice_get t.buckets place ≡ Some b)
+
+-- whatever tables stand, the bucket at a place of a table begins at this number
+abbrev pub IsFirst : Image → ℕ → ℕ → ℕ → ℕ → Type 0
+IsFirst image head table place first = (tables : List Table) (b : List (Placed Held)) → AreTables image head tables →
+    IsBucketAt tables table place b → first ≡ start b 0
+
+-- some tables stand
+abbrev pub HasTables : Image → ℕ → Type 0
+HasTables image head = (tables : List Table) × AreTables image head tables
 
 -- from this number on the entries of a bucket stand in page cells
 pub record IsBucket (image : Image) (first bucket : ℕ) (chain : List (Placed Held)) : Type 0 where
@@ -53,3 +64,8 @@ pub record IsAt (image : Image) (first : ℕ) (version : CellRef) (found : Found
   pub is : IsBucket image first bucket (front ++ record { number = found.at.number; element = Entry version hash } ∷ back)
   pub before : IsLast front found.before.number
   pub next : found.next.number ≡ start back 0
+
+-- the versions of a table came to the list, whatever tables stand
+abbrev pub ListsTable : Image → ℕ → ℕ → List CellRef → List CellRef → Type 0
+ListsTable image head place before after = (tables : List Table) (t : Table) → AreTables image head tables →
+    slice_get tables place ≡ Some t → after ≡ before ++ versions_of (bucket_nodes t.buckets)

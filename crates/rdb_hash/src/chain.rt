@@ -1,7 +1,8 @@
 //! Walks along the entries of one bucket. They read cells alone.
 ghost use Rattle.std.specs.Prelude.{◌≡◌, ◌++◌, OnOk, filter, true};
-ghost use Rattle.rdb_cells.specs.Keys.{hash_by};
+ghost use Rattle.rdb_cells.specs.Keys.{hash_by, says};
 ghost use Rattle.rdb_hash.specs.Lookup.{has_key};
+ghost use Rattle.rdb_hash.specs.Shape.{IsHashed, Entry};
 ghost use Rattle.rdb_hash.specs.Walks.{HasBucket, HasHashedBucket, HasEntry, IsAt, WhateverInBucket};
 
 use rdb_base::list::NoMemory;
@@ -46,7 +47,12 @@ fn has_the_key<C: Cells, K: Keys>(
     entry: &HashEntry,
     key: &Row,
     hash: u32,
-) -> bool {
+) -> bool
+    requires entry { IsHashed (says (K.meaning keys.now) (C.image cells.now)) (Entry entry.now.version entry.now.hash) }
+    requires key { (K.meaning keys.now).fits key.now ≡ true }
+    requires hash { hash ≡ hash_by (K.meaning keys.now) key.now }
+    ensures { result ≡ has_key (K.meaning keys.now) (C.image cells.now) key.now entry.now.version }
+{
     entry.hash == hash && keys.same(cells, entry.version, key)
 }
 

@@ -5,13 +5,21 @@
 //! | the index head  | the tables, each in a cell while one of its buckets has an entry  |
 //! | a table         | the first entry of each of its buckets                            |
 //! | an entry        | its version, and the next entry of its bucket                     |
-ghost use Rattle.std.specs.Prelude.{◌≡◌, ◌<◌, IfOk, true};
+ghost use Rattle.std.specs.Prelude.{◌≡◌, ◌≢◌, ◌==◌, ◌+◌, ◌<◌, ◌≤◌, length, IfOk, OnOk, true};
+ghost use Rattle.std.specs.List.{list_all};
+ghost use Rattle.rdb_cells.specs.HashFormat.{table_buckets};
+ghost use Rattle.rdb_cells.specs.HeadFormat.{index_roots};
 ghost use Rattle.rdb_cells.specs.References.{index_head_ref, max_classes, max_indexes};
+ghost use Rattle.rdb_cells.specs.Parts.{hash_part};
+ghost use Rattle.rdb_cells.specs.Words.{no_ref};
+ghost use Rattle.rdb_cells.specs.Work.{work, reading, HasLeft};
+ghost use Rattle.rdb_hash.specs.Changes.{IsPutHashed, IsRemovedByAny, HasRoot, IsBucketOf, IsIn};
 ghost use Rattle.rdb_hash.specs.Lookup.{StandsBy, IsFound};
 ghost use Rattle.rdb_hash.specs.Shape.{hash_nature};
+ghost use Rattle.rdb_hash.specs.Walks.{HasTables, IsFirst, ListsTable};
 
 use crate::bucket::Bucket;
-use crate::chain::{find, gather, list};
+use crate::chain::{Found, find, gather, list};
 use rdb_base::list::{List, NoMemory};
 use rdb_base::value::Row;
 use rdb_cells::{
@@ -65,12 +73,35 @@ impl Hash {
     }
 
     /// Returns the first entry of a bucket, `NONE` where it has none.
-    fn first_of<C: Cells>(&self, cells: &C, bucket: Bucket) -> CellRef {
+    fn first_of<C: Cells>(&self, cells: &C, bucket: Bucket) -> CellRef
+        requires tables { HasTables (C.image cells.now) self.now.head.number }
+        requires table { bucket.table < index_roots }
+        requires place { bucket.place < table_buckets }
+        ensures { IsFirst (C.image cells.now) self.now.head.number bucket.table bucket.place result.number }
+    {
         let table = IndexHead::root_in(cells.read(self.head), bucket.table);
         if table == NONE {
             return NONE;
         }
         HashTable::bucket_in(cells.read(table), bucket.place)
+    }
+
+    /// Appends the versions of a table, bucket by bucket.
+    fn list_table<C: Cells>(
+        &self,
+        cells: &C,
+        table: usize,
+        refs: &mut Refs,
+    ) -> Result<(), NoMemory>
+        requires tables { HasTables (C.image cells.now) self.now.head.number }
+        requires table { table < index_roots }
+        ensures { OnOk result (ListsTable (C.image cells.now) self.now.head.number table refs.old refs.new) }
+    {
+        for place in 0..TABLE_BUCKETS {
+            let first = self.first_of(cells, Bucket { table, place });
+            list(cells, first, refs)?;
+        }
+        Ok(())
     }
 
     /// Makes a table with the entry alone. The entry takes the lower cell.
@@ -80,7 +111,16 @@ impl Hash {
         bucket: Bucket,
         version: CellRef,
         hash: u32,
-    ) {
+    )
+        requires tables { HasTables (reading (work C.Cells cells.old)) self.now.head.number }
+        requires root { HasRoot (reading (work C.Cells cells.old)) self.now.head.number bucket.table no_ref }
+        requires bucket { IsBucketOf bucket hash }
+        requires places { length cells.old.plan.pairs + 50 ≤ cells.old.plan.room }
+        requires free { HasLeft (work C.Cells cells.old) hash_part }
+        ensures put { IsPutHashed (hash_nature self.now.class self.now.head.number)
+            (work C.Cells cells.old) (work C.Cells cells.new) version hash }
+        ensures below { (cells.new.cells ≡ cells.old.cells) × (cells.new.class ≡ cells.old.class) }
+    {
         let mut head = IndexHead::of_cell(cells.planned(self.head));
         let place = cells.take();
         let table = cells.take();
@@ -97,45 +137,109 @@ impl Hash {
         cells.put(self.head, head.to_cell());
     }
 
-    /// Gives the table's cell back, whose last entry has gone.
-    fn drop_table<C: Cells>(&self, cells: &mut Overlay<C>, table: CellRef, bucket: Bucket) {
+    /// Puts the entry first into its bucket of a table.
+    fn put_in_table<C: Cells>(
+        &self,
+        cells: &mut Overlay<C>,
+        table: CellRef,
+        bucket: Bucket,
+        version: CellRef,
+        hash: u32,
+    )
+        requires tables { HasTables (reading (work C.Cells cells.old)) self.now.head.number }
+        requires root { HasRoot (reading (work C.Cells cells.old)) self.now.head.number bucket.table table }
+        requires some { table.number ≢ 0 }
+        requires bucket { IsBucketOf bucket hash }
+        requires places { length cells.old.plan.pairs + 50 ≤ cells.old.plan.room }
+        requires free { HasLeft (work C.Cells cells.old) hash_part }
+        ensures put { IsPutHashed (hash_nature self.now.class self.now.head.number)
+            (work C.Cells cells.old) (work C.Cells cells.new) version hash }
+        ensures below { (cells.new.cells ≡ cells.old.cells) × (cells.new.class ≡ cells.old.class) }
+    {
+        let mut buckets = HashTable::of_cell(cells.planned(table)).buckets;
+        let place = cells.take();
+        let entry = HashEntry {
+            next: buckets[bucket.place],
+            version,
+            hash,
+        };
+        cells.put(place, entry.to_cell());
+        buckets[bucket.place] = place;
+        cells.put(table, HashTable { buckets }.to_cell());
+    }
+
+    /// Takes the entry out from behind another one, which leads past it then.
+    fn take_behind<C: Cells>(
+        &self,
+        cells: &mut Overlay<C>,
+        bucket: Bucket,
+        version: CellRef,
+        found: Found,
+    )
+        requires tables { HasTables (reading (work C.Cells cells.old)) self.now.head.number }
+        requires found { IsIn (reading (work C.Cells cells.old)) self.now.head.number bucket.table bucket.place version found }
+        requires behind { found.before.number ≢ 0 }
+        requires table { bucket.table < index_roots }
+        requires place { bucket.place < table_buckets }
+        requires places { length cells.old.plan.pairs + 50 ≤ cells.old.plan.room }
+        ensures removed { IsRemovedByAny (hash_nature self.now.class self.now.head.number)
+            (work C.Cells cells.old) (work C.Cells cells.new) version }
+        ensures below { (cells.new.cells ≡ cells.old.cells) × (cells.new.class ≡ cells.old.class) }
+    {
+        let entry = HashEntry::of_cell(cells.planned(found.before));
+        cells.put(found.at, Cell::ZERO);
+        let led = HashEntry {
+            next: found.next,
+            version: entry.version,
+            hash: entry.hash,
+        };
+        cells.put(found.before, led.to_cell());
+    }
+
+    /// Takes the first entry out of its bucket, and gives the table's cell back with the last entry of all its buckets.
+    fn take_first<C: Cells>(
+        &self,
+        cells: &mut Overlay<C>,
+        bucket: Bucket,
+        version: CellRef,
+        found: Found,
+    )
+        requires tables { HasTables (reading (work C.Cells cells.old)) self.now.head.number }
+        requires found { IsIn (reading (work C.Cells cells.old)) self.now.head.number bucket.table bucket.place version found }
+        requires first { found.before.number ≡ 0 }
+        requires table { bucket.table < index_roots }
+        requires place { bucket.place < table_buckets }
+        requires places { length cells.old.plan.pairs + 50 ≤ cells.old.plan.room }
+        ensures removed { IsRemovedByAny (hash_nature self.now.class self.now.head.number)
+            (work C.Cells cells.old) (work C.Cells cells.new) version }
+        ensures below { (cells.new.cells ≡ cells.old.cells) × (cells.new.class ≡ cells.old.class) }
+    {
         let mut head = IndexHead::of_cell(cells.planned(self.head));
-        cells.put(table, Cell::ZERO);
-        head.roots[bucket.table] = NONE;
-        cells.put(self.head, head.to_cell());
+        let table = head.roots[bucket.table];
+        let mut buckets = HashTable::of_cell(cells.planned(table)).buckets;
+        cells.put(found.at, Cell::ZERO);
+        buckets[bucket.place] = found.next;
+        if are_none(&buckets) {
+            cells.put(table, Cell::ZERO);
+            head.roots[bucket.table] = NONE;
+            cells.put(self.head, head.to_cell());
+        } else {
+            cells.put(table, HashTable { buckets }.to_cell());
+        }
     }
 }
 
-/// Puts the entry first into its bucket of a table.
-fn put_in_table<C: Cells>(
-    cells: &mut Overlay<C>,
-    table: CellRef,
-    bucket: Bucket,
-    version: CellRef,
-    hash: u32,
-) {
-    let mut buckets = HashTable::of_cell(cells.planned(table)).buckets;
-    let place = cells.take();
-    let entry = HashEntry {
-        next: buckets[bucket.place],
-        version,
-        hash,
-    };
-    cells.put(place, entry.to_cell());
-    buckets[bucket.place] = place;
-    cells.put(table, HashTable { buckets }.to_cell());
-}
-
-/// Leads an entry past the next one.
-fn lead_past<C: Cells>(cells: &mut Overlay<C>, before: CellRef, next: CellRef) {
-    let entry = HashEntry::of_cell(cells.planned(before));
-    let led = HashEntry { next, ..entry };
-    cells.put(before, led.to_cell());
+/// Returns whether none of the buckets has an entry.
+fn are_none(buckets: &[CellRef]) -> bool
+    ensures { result ≡ list_all (λ r. r.number == 0) buckets.now }
+{
+    buckets.iter().all(|first| *first == NONE)
 }
 
 impl Index for Hash {
     ghost use Rattle.rdb_hash.specs.Shape.{hash_nature};
-    ghost use Rattle.rdb_hash.specs.HashLaws.{hash_starts_empty, hash_lists_once, hash_has_index_cells, hash_rests_on_nodes};
+    ghost use Rattle.rdb_hash.specs.HashLaws.{hash_starts_empty, hash_lists_once, hash_has_index_cells};
+    ghost use Rattle.rdb_hash.specs.HashLaws.{hash_has_few_nodes, hash_rests_on_nodes};
 
     ghost nature = { λ hash. hash_nature hash.class hash.head.number };
 
@@ -147,39 +251,27 @@ impl Index for Hash {
         if table == NONE {
             self.put_in_new_table(cells, bucket, version, hash);
         } else {
-            put_in_table(cells, table, bucket, version, hash);
+            self.put_in_table(cells, table, bucket, version, hash);
         }
     }
 
     /// The cost grows with the number of entries of the version's bucket.
     fn remove<C: Cells, K: Keys>(&self, cells: &mut Overlay<C>, keys: &K, version: CellRef) {
         let bucket = Bucket::of(keys.hash(&*cells, version));
-        let table = IndexHead::root_in(cells.planned(self.head), bucket.table);
-        let mut buckets = HashTable::of_cell(cells.planned(table)).buckets;
-        let first = buckets[bucket.place];
+        let first = self.first_of(&*cells, bucket);
         let found = find(&*cells, first, version);
-        cells.put(found.at, Cell::ZERO);
-        if found.before != NONE {
-            lead_past(cells, found.before, found.next);
-            return;
-        }
-        buckets[bucket.place] = found.next;
-        if buckets.iter().all(|bucket| *bucket == NONE) {
-            self.drop_table(cells, table, bucket);
+        if found.before == NONE {
+            self.take_first(cells, bucket, version, found);
         } else {
-            cells.put(table, HashTable { buckets }.to_cell());
+            self.take_behind(cells, bucket, version, found);
         }
     }
 
     /// The cost grows with the number of entries.
     fn refs<C: Cells>(&self, cells: &C) -> Result<Refs, NoMemory> {
         let mut refs = List::new(self.alloc);
-        for table in IndexHead::of_cell(cells.read(self.head)).roots {
-            if table != NONE {
-                for first in HashTable::of_cell(cells.read(table)).buckets {
-                    list(cells, first, &mut refs)?;
-                }
-            }
+        for table in 0..INDEX_ROOTS {
+            self.list_table(cells, table, &mut refs)?;
         }
         Ok(refs)
     }
@@ -189,6 +281,8 @@ impl Index for Hash {
     ghost lists_once = { λ hash. hash_lists_once hash.class hash.head.number };
 
     ghost has_index_cells = { λ hash. hash_has_index_cells hash.class hash.head.number };
+
+    ghost has_few_nodes = { λ hash. hash_has_few_nodes hash.class hash.head.number };
 
     ghost rests_on_nodes = { λ hash. hash_rests_on_nodes hash.class hash.head.number };
 }
