@@ -1,0 +1,12 @@
+pub mod RowLemmas
+pub mod SearchLemmas
+pub mod WovenLemmas
+pub mod SeekLemmas
+pub mod OrderLemmas
+pub mod NodeLemmas
+pub mod SoughtLemmas
+pub mod LevelLemmas
+pub mod HeadLemmas
+pub mod GatherLemmas
+pub mod EqualLemmas
+pub mod WholeLemmas

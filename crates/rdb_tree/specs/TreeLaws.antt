@@ -1,29 +1,116 @@
 -- A tree index meets the laws of an index. The laws cite this, so no tactic stands here.
-use Rattle.std.specs.Prelude.{◌≡◌, ◌+◌, ◌*◌, ◌%◌, ℕ, zero, suc, List, [], ◌∷◌, Option, Some, Contains, if◌then◌else◌, refl}
+use Rattle.std.specs.Prelude.{◌≡◌, ◌+◌, ◌*◌, ◌%◌, ◌≤◌, map, ℕ, zero, suc, List, [], ◌∷◌, ◌++◌, ◌⊎◌, length, Option, Some, Contains, if◌then◌else◌, refl}
 use Rattle.std.specs.List.{flat_map}
 use mathlib.Core.Logic.{inl, inr}
 use mathlib.Core.Path.{sym, ap, subst, ◌∙◌}
-use native.Mathlib.Nat.{add-mul-mod_self_left, not-suc-le-zero}
+use native.Mathlib.Nat.{add-mul-mod_self_left, not-suc-le-zero, zero-lt-suc, suc-le-suc_iff, le_intro, le_trans, two-mul, zero-add}
 use Rattle.rdb_pages.specs.declared.cell.CellRef.{CellRef}
 use Rattle.rdb_cells.specs.declared.formats.tree.TreeNode.{TreeNode}
 use Rattle.rdb_cells.specs.declared.kind.Kind.TheVariants as kind
 use Rattle.rdb_cells.specs.HeadFormat.{index_head_cell, rooted_head}
 use Rattle.rdb_cells.specs.Images.{Image}
-use Rattle.rdb_cells.specs.Index.{StartsEmpty, ListsOnce, HasIndexCells, RestsOnNodes}
+use Rattle.rdb_cells.specs.Index.{StartsEmpty, ListsOnce, HasIndexCells, HasFewNodes, RestsOnNodes}
 use Rattle.rdb_cells.specs.Keys.{Sayings}
 use Rattle.rdb_cells.specs.Links.{IsAmong, AreOnce, SameOn}
 use Rattle.rdb_cells.specs.PlainLaws.{lists_again}
 use Rattle.rdb_cells.specs.TreeFormat.{tree_node_cell}
 use Rattle.rdb_cells.specs.Words.{IsOfKind, HasKind}
-use Rattle.rdb_cells.proofs.LinkLemmas.{among_either, among_front, among_back}
-use Rattle.rdb_cells.proofs.ListedLemmas.{contains_first, contains_later}
 use Rattle.rdb_tree.specs.Nature.{IsTree, tree_nature}
 use Rattle.rdb_tree.specs.Order.{IsBefore, AreAscending}
-use Rattle.rdb_tree.specs.Trees.{Node, BTree, Each, Tree, Empty, Rooted, Stands, Holds, cells, cells_of, TreeStands, root_of, node_with, roots}
+use Rattle.rdb_tree.specs.Trees.{Node, BTree, Each, Tree, Empty, Rooted, Stands, Holds, cells, cells_of, TreeStands, IsBTree, IsShaped, least_keys, root_of, versions, versions_of, woven, node_with, roots}
 
 -- the cell of a node is one of a tree
 pub node_kind : (node : TreeNode) → IsOfKind (tree_node_cell node) kind.TreeNode
 node_kind node = add-mul-mod_self_left 6 256 (node.count + 256 * (if node.leaf then 1 else 0))
+
+-- numbers that are among two lists
+among_front : (xs ys : List ℕ) (n : ℕ) → IsAmong xs n → IsAmong (xs ++ ys) n
+among_front [] ys n within = absurd within
+among_front (x ∷ xs) ys n (inl same) = inl same
+among_front (x ∷ xs) ys n (inr within) = inr (among_front xs ys n within)
+
+among_back : (xs ys : List ℕ) (n : ℕ) → IsAmong ys n → IsAmong (xs ++ ys) n
+among_back [] ys n within = within
+among_back (x ∷ xs) ys n within = inr (among_back xs ys n within)
+
+among_either : (xs ys : List ℕ) (n : ℕ) → IsAmong (xs ++ ys) n → IsAmong xs n ⊎ IsAmong ys n
+among_either [] ys n within = inr within
+among_either (x ∷ xs) ys n (inl same) = inl (inl same)
+among_either (x ∷ xs) ys n (inr within) = elim (among_either xs ys n within) [
+  | inl front ↦ inl (inr front)
+  | inr back ↦ inr back
+]
+
+contains_first : (r : CellRef) (rs : List CellRef) → Contains (r ∷ rs) r
+contains_first r rs = (0, zero-lt-suc (length rs), refl)
+
+contains_later : (r q : CellRef) (rs : List CellRef) → Contains rs q → Contains (r ∷ rs) q
+contains_later r q rs within = (suc within.0, suc-le-suc_iff.1 within.1, within.2)
+
+-- the first list is no longer than the second
+abbrev IsNoLonger : List ℕ → List CellRef → Type 0
+IsNoLonger [] ys = Unit {0}
+IsNoLonger (x ∷ xs) [] = ⊥
+IsNoLonger (x ∷ xs) (y ∷ ys) = IsNoLonger xs ys
+
+behind_first : (xs : List ℕ) (y : CellRef) (ys : List CellRef) → IsNoLonger xs ys → IsNoLonger xs (y ∷ ys)
+behind_first [] y ys no_longer = tt
+behind_first (x ∷ xs) y [] no_longer = absurd no_longer
+behind_first (x ∷ xs) y (z ∷ zs) no_longer = behind_first xs z zs no_longer
+
+behind_all : (xs : List ℕ) (ys zs : List CellRef) → IsNoLonger xs zs → IsNoLonger xs (ys ++ zs)
+behind_all xs [] zs no_longer = no_longer
+behind_all xs (y ∷ ys) zs no_longer = behind_first xs y (ys ++ zs) (behind_all xs ys zs no_longer)
+
+both_no_longer : (xs ws : List ℕ) (ys zs : List CellRef) → IsNoLonger xs ys → IsNoLonger ws zs → IsNoLonger (xs ++ ws) (ys ++ zs)
+both_no_longer [] ws ys zs first second = behind_all ws ys zs second
+both_no_longer (x ∷ xs) ws [] zs first second = absurd first
+both_no_longer (x ∷ xs) ws (y ∷ ys) zs first second = both_no_longer xs ws ys zs first second
+
+one_between : (x : ℕ) (xs : List ℕ) (ys : List CellRef) (z : CellRef) (zs : List CellRef) → IsNoLonger xs (ys ++ zs) → IsNoLonger (x ∷ xs) (ys ++ z ∷ zs)
+one_between x xs [] z zs no_longer = no_longer
+one_between x [] (y ∷ ys) z zs no_longer = tt
+one_between x (w ∷ ws) (y ∷ ys) z zs no_longer = one_between w ws ys z zs no_longer
+
+more_between : (xs : List ℕ) (ys : List CellRef) (z : CellRef) (zs : List CellRef) → IsNoLonger xs (ys ++ zs) → IsNoLonger xs (ys ++ z ∷ zs)
+more_between xs [] z zs no_longer = behind_first xs z zs no_longer
+more_between [] (y ∷ ys) z zs no_longer = tt
+more_between (x ∷ xs) (y ∷ ys) z zs no_longer = more_between xs ys z zs no_longer
+
+-- a tree has no more cells than versions
+few_below : (h : ℕ) → ((t : BTree h) → IsShaped h least_keys t → IsNoLonger (cells h t) (versions h t)) → (ts : List (BTree h)) (keys : List CellRef) → Each (IsShaped h least_keys) ts → IsNoLonger (flat_map (cells h) ts) (woven keys (map (versions h) ts))
+few_below h one [] keys shapes = tt
+few_below h one (t ∷ ts) [] shapes = both_no_longer (cells h t) (flat_map (cells h) ts) (versions h t) (woven [] (map (versions h) ts)) (one t shapes.0) (few_below h one ts [] shapes.1)
+few_below h one (t ∷ ts) (key ∷ keys) shapes =
+    more_between (cells h t ++ flat_map (cells h) ts) (versions h t) key (woven keys (map (versions h) ts))
+    (both_no_longer (cells h t) (flat_map (cells h) ts) (versions h t) (woven keys (map (versions h) ts)) (one t shapes.0) (few_below h one ts keys shapes.1))
+
+few_at : (h : ℕ) → ((t : BTree h) → IsShaped h least_keys t → IsNoLonger (cells h t) (versions h t)) → (at : ℕ) (keys : List CellRef) (ts : List (BTree h)) (least : ℕ) → suc least ≤ length keys → Each (IsShaped h least_keys) ts → IsNoLonger (at ∷ flat_map (cells h) ts) (woven keys (map (versions h) ts))
+few_at h one at [] ts least enough shapes = absurd (not-suc-le-zero enough)
+few_at h one at (key ∷ keys) [] least enough shapes = tt
+few_at h one at (key ∷ keys) (t ∷ ts) least enough shapes =
+    one_between at (cells h t ++ flat_map (cells h) ts) (versions h t) key (woven keys (map (versions h) ts))
+    (both_no_longer (cells h t) (flat_map (cells h) ts) (versions h t) (woven keys (map (versions h) ts)) (one t shapes.0) (few_below h one ts keys shapes.1))
+
+few_in_leaf : (at : ℕ) (keys : List CellRef) (least : ℕ) → suc least ≤ length keys → IsNoLonger (at ∷ []) keys
+few_in_leaf at [] least enough = absurd (not-suc-le-zero enough)
+few_in_leaf at (key ∷ keys) least enough = tt
+
+few_cells : (h least : ℕ) (t : BTree h) → IsShaped h (suc least) t → IsNoLonger (cells h t) (versions h t)
+few_cells zero least t shape = few_in_leaf t.at.number t.keys least shape.enough
+few_cells (suc h) least t shape = few_at h (few_cells h 2) t.at.number t.keys t.children least shape.0.enough shape.2
+
+few_nodes : (tree : Tree) → IsBTree tree → IsNoLonger (cells_of tree) (versions_of tree)
+few_nodes Empty shape = tt
+few_nodes (Rooted h t) shape = few_cells h 0 t shape
+
+once_in_twice : (n : ℕ) → n ≤ 2 * n
+once_in_twice n = le_intro n n (sym (two-mul n))
+
+shorter : (xs : List ℕ) (ys : List CellRef) → IsNoLonger xs ys → length xs ≤ length ys
+shorter [] ys no_longer = le_intro 0 (length ys) (zero-add (length ys))
+shorter (x ∷ xs) [] no_longer = absurd no_longer
+shorter (x ∷ xs) (y ∷ ys) no_longer = suc-le-suc_iff.1 (shorter xs ys no_longer)
 
 -- a tree rests on its cells
 module _ (before after : Image) where
@@ -118,6 +205,12 @@ module _ (class head : ℕ) where
         (kind.TreeNode, refl, has);
     once = is.once;
   }
+
+  pub tree_has_few_nodes : HasFewNodes (tree_nature class head)
+  tree_has_few_nodes said image listed nodes is =
+      let few = le_trans (shorter (cells_of is.tree) (versions_of is.tree) (few_nodes is.tree is.shape)) (once_in_twice (length (versions_of is.tree))) in
+      subst (λ (ns : List ℕ). length ns ≤ 2 * length listed) (sym is.nodes_are)
+      (subst (λ (rs : List CellRef). length (cells_of is.tree) ≤ 2 * length rs) (sym is.listed_is) few)
 
   pub tree_rests_on_nodes : RestsOnNodes (tree_nature class head)
   tree_rests_on_nodes said image listed nodes is again after says same =

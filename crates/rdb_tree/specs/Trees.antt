@@ -1,5 +1,5 @@
 -- B-trees of versions: by their height, as they stand in cells, and their shape.
-use Rattle.std.specs.Prelude.{◌≡◌, ◌≤◌, ◌+◌, ◌-◌, ◌*◌, ◌^◌, ℕ, zero, suc, List, [], ◌∷◌, ◌++◌, length, map, replicate, Bool, true, false, Some, if◌then◌else◌}
+use Rattle.std.specs.Prelude.{◌≡◌, ◌≤◌, ◌<◌, ◌+◌, ◌-◌, ◌*◌, ◌^◌, ℕ, zero, suc, List, [], ◌∷◌, ◌++◌, length, map, take, replicate, Bool, true, false, Some, if◌then◌else◌}
 use Rattle.std.specs.List.{flat_map}
 use Rattle.rdb_pages.specs.declared.cell.CellRef.{CellRef}
 use Rattle.rdb_cells.specs.declared.formats.tree.TreeNode.{TreeNode}
@@ -66,6 +66,17 @@ node_with keys children = record {
   children = padded most_children children;
 }
 
+-- the keys and the children that a node says
+abbrev pub keys_in : TreeNode → List CellRef
+keys_in node = take node.count node.versions
+
+abbrev pub children_in : TreeNode → List CellRef
+children_in node = if node.leaf then [] else take (node.count + 1) node.children
+
+-- the most references of a kind in a node that has one key too many
+abbrev pub most_refs : ℕ
+most_refs = 9
+
 -- the node's cell says its keys and its children
 abbrev pub Holds : (h : ℕ) → Image → BTree h → Type 0
 Holds h image t = image t.at.number ≡ Some (tree_node_cell (node_with t.keys (roots h t.children)))
@@ -89,6 +100,13 @@ pub record HasKeys (least : ℕ) (keys : List CellRef) : Type 0 where
 abbrev pub IsShaped : (h : ℕ) → ℕ → BTree h → Type 0
 IsShaped zero least t = HasKeys least t.keys
 IsShaped (suc h) least t = HasKeys least t.keys × (length t.children ≡ length t.keys + 1) × Each (IsShaped h least_keys) t.children
+
+-- a tree with this root stands in the image, has the shape of a B-tree and fewer levels above its leaves than this
+pub record IsTreeAt (image : Image) (at : CellRef) (levels h : ℕ) (t : BTree h) : Type 0 where
+  pub stands : Stands h image t
+  pub shape : IsShaped h 1 t
+  pub root : t.at ≡ at
+  pub height : h < levels
 
 -- a tree that may be empty, with its height
 pub data Tree : Type 0 where

@@ -74,7 +74,7 @@ fn put_into<C: Cells>(
     } else {
         with_one(children_of(&node), step.place + 1, raised.right)
     };
-    if versions.count <= TREE_KEYS {
+    if versions.as_slice().len() <= TREE_KEYS {
         let node = node_of(versions.as_slice(), children.as_slice());
         cells.put(step.at, node.to_cell());
         return None;

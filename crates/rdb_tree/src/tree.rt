@@ -9,7 +9,7 @@ ghost use Rattle.rdb_tree.specs.Lookups.{has_key, first_past, PlaceFits};
 ghost use Rattle.rdb_tree.specs.Nature.{tree_nature};
 ghost use Rattle.rdb_tree.specs.Trees.{AreLevels};
 
-use crate::lookup::{gather_equal, gather_versions, seek_down, seek_up};
+use crate::lookup::{gather_equal, gather_versions, seek_from};
 use crate::node::MAX_LEVELS;
 use rdb_base::list::{List, NoMemory};
 use rdb_base::operation::Place;
@@ -61,9 +61,10 @@ impl Tree {
     {
         let mut refs = List::new(self.alloc);
         let root = IndexHead::root_in(cells.read(self.head), 0);
-        if root != NONE {
-            gather_equal(cells, keys, key, root, MAX_LEVELS, &mut refs, steps)?;
+        if root == NONE {
+            return Ok(refs);
         }
+        gather_equal(cells, keys, key, root, MAX_LEVELS, &mut refs, steps)?;
         Ok(refs)
     }
 
@@ -87,17 +88,13 @@ impl Tree {
             (λ listed nodes. (levels : ℕ) × AreLevels levels (length listed) × (steps.new ≤ steps.old + 7 * levels)) }
     {
         let root = IndexHead::root_in(cells.read(self.head), 0);
-        if up {
-            seek_up(cells, keys, place, root, steps)
-        } else {
-            seek_down(cells, keys, place, root, steps)
-        }
+        seek_from(cells, keys, place, up, root, steps)
     }
 }
 
 impl Index for Tree {
     ghost use Rattle.rdb_tree.specs.Nature.{tree_nature};
-    ghost use Rattle.rdb_tree.specs.TreeLaws.{tree_starts_empty, tree_lists_once, tree_has_index_cells, tree_rests_on_nodes};
+    ghost use Rattle.rdb_tree.specs.TreeLaws.{tree_starts_empty, tree_lists_once, tree_has_index_cells, tree_has_few_nodes, tree_rests_on_nodes};
 
     ghost nature = { λ tree. tree_nature tree.class tree.head.number };
 
@@ -115,9 +112,10 @@ impl Index for Tree {
     fn refs<C: Cells>(&self, cells: &C) -> Result<Refs, NoMemory> {
         let mut refs = List::new(self.alloc);
         let root = IndexHead::root_in(cells.read(self.head), 0);
-        if root != NONE {
-            gather_versions(cells, root, MAX_LEVELS, &mut refs)?;
+        if root == NONE {
+            return Ok(refs);
         }
+        gather_versions(cells, root, MAX_LEVELS, &mut refs)?;
         Ok(refs)
     }
 
@@ -126,6 +124,8 @@ impl Index for Tree {
     ghost lists_once = { λ tree. tree_lists_once tree.class tree.head.number };
 
     ghost has_index_cells = { λ tree. tree_has_index_cells tree.class tree.head.number };
+
+    ghost has_few_nodes = { λ tree. tree_has_few_nodes tree.class tree.head.number };
 
     ghost rests_on_nodes = { λ tree. tree_rests_on_nodes tree.class tree.head.number };
 }
