@@ -1,0 +1,16 @@
+pub mod ChainMaps
+pub mod RowsShown
+pub mod Pairs
+pub mod StampLemmas
+pub mod Picks
+pub mod KeptLemmas
+pub mod RestLemmas
+pub mod StampedLemmas
+pub mod GarbageLemmas
+pub mod AnswerLemmas
+pub mod NothingLemmas
+pub mod JournalLemmas
+pub mod MarkLemmas
+pub mod CommitLemmas
+pub mod TouchLemmas
+pub mod MarkedChains
