@@ -7,3 +7,4 @@ pub mod Headers
 pub mod VersionLemmas
 pub mod VersionPlans
 pub mod Rooms
+pub mod Decodings

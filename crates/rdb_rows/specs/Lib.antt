@@ -1,3 +1,4 @@
 pub mod Rows
 pub mod Versions
 pub mod Plans
+pub mod Decoded

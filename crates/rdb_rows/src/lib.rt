@@ -1,6 +1,7 @@
 //! The versions of objects in cells: a header for each, and its row in a chain of row cells.
 #![tactic(auto)]
 
+mod decode;
 mod label;
 mod laws;
 mod rows;
@@ -8,6 +9,7 @@ mod rows;
 mod tests;
 mod versions;
 
+pub use decode::row_in;
 pub use label::Label;
 pub use laws::{
     a_place_has_one_version, a_put_version_keeps_the_others, versions_rest_on_their_cells,

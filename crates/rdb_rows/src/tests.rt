@@ -4,19 +4,24 @@ ghost use Rattle.rdb_cells.specs.Untaken.{HasUntaken};
 ghost use Rattle.std.specs.Prelude.{[], ◌<◌};
 ghost use Rattle.rdb_rows.specs.Versions.{HasVersion, IsLabel};
 
+use crate::decode::row_in;
 use crate::label::Label;
 use crate::versions::{
     VERSION_CELLS, change_older, give_back, id_in, is_tombstone, older_in, put_tombstone,
     put_version, row_bytes, row_length, serial_in, stamp_in, with_stamp,
 };
+use rdb_access::accessors::Accessors;
 use rdb_base::identity::Stamp;
 use rdb_base::limits::MAX_ROW;
 use rdb_base::list::{List, NoMemory};
+use rdb_base::text::Text;
+use rdb_base::value::{Leaf, Row, Value};
 use rdb_cells::doubles::memory::MemoryCells;
 use rdb_cells::{
     Cells, HasPairs, NONE, Overlay, Plan, RowCell, VersionHeader, fewer_cells_are_left,
 };
 use rdb_pages::CellRef;
+use rdb_schema::schema::{Class, Field, FieldType, Schema};
 use std::alloc::Global;
 use std::process::Abort;
 use std::test::*;
@@ -58,6 +63,41 @@ fn some_bytes(alloc: Global, many: usize) -> Result<List<u8>, NoMemory> {
     Ok(bytes)
 }
 
+/// The accessors of a class of one text.
+fn accessors_of_text(alloc: Global) -> Result<Accessors, NoMemory> {
+    let mut fields = List::new(alloc);
+    fields.push(Field {
+        name: Text::of(alloc, "words")?,
+        ty: FieldType::Str,
+    })?;
+    let mut classes = List::new(alloc);
+    classes.push(Class {
+        name: Text::of(alloc, "Note")?,
+        fields,
+        autoid: false,
+        estimate: None,
+        indexes: List::new(alloc),
+        events: List::new(alloc),
+    })?;
+    let schema = Schema {
+        name: Text::of(alloc, "notes")?,
+        groups: List::new(alloc),
+        classes,
+    };
+    Accessors::of(alloc, &schema, 0)
+}
+
+/// The first text of a row.
+fn first_text(row: &Option<Row>) -> Option<&str> {
+    match row {
+        Some(row) => match row.as_slice() {
+            [Value::Leaf(Leaf::Text(words))] => Some(words.as_str()),
+            _ => None,
+        },
+        None => None,
+    }
+}
+
 /// Checks what is read of a version.
 fn check_read<C: Cells>(
     rt: &impl Abort,
@@ -75,6 +115,10 @@ fn check_read<C: Cells>(
     assert_eq!(rt; older_in(cells, version), label.older);
     assert_eq!(rt; row_length(cells, version), bytes.len());
     assert_eq!(rt; row_bytes(alloc, cells, version)?.as_slice(), bytes);
+    if bytes.len() > 1 {
+        let row = row_in(alloc, &accessors_of_text(alloc)?, cells, version)?;
+        assert_eq!(rt; first_text(&row), Some("\u{2}"));
+    }
     let stamped = with_stamp(cells, version, Stamp::Done(9));
     assert_eq!(rt; VersionHeader::stamp_in(&stamped), Stamp::Done(9));
     assert_eq!(rt; VersionHeader::serial_in(&stamped), label.serial);
