@@ -2,15 +2,17 @@
 use Rattle.std.proofs.Common.{◌≡◌, ◌≢◌, ◌<◌, ◌⊎◌, zero, suc, ℕ, List, [], ◌∷◌, Option, Some, inl, inr, refl, sym, ap, subst, ◌∙◌, arith}
 use Rattle.std.specs.List.{Contains}
 use Rattle.rdb_pages.specs.declared.cell.CellRef.{CellRef}
+use Rattle.rdb_cells.specs.HeadFormat.{class_head_cell, empty_class_head}
 use Rattle.rdb_cells.specs.Images.{Image}
 use Rattle.rdb_cells.specs.Links.{IsAmong}
 use Rattle.rdb_cells.proofs.ListedLemmas.{contains_first, contains_later}
-use Rattle.rdb_objects.specs.Changes.{RestsOnObjects, SameLinks, OfOneObject}
+use Rattle.rdb_objects.specs.Changes.{RestsOnObjects, SameLinks, LeavesObjects, StartsEmpty, OfOneObject}
 use Rattle.rdb_objects.specs.Objects.{Object, newest_of, versions_of}
 use Rattle.rdb_objects.specs.Slots.{Slot, cells_of, IsOneOf, IsVersion, AreVersions, HoldsObjects}
 use Rattle.rdb_objects.proofs.ChainLemmas.{one_header, chain_member, contained}
-use Rattle.rdb_objects.proofs.TreeLemmas.{in_cells}
-use Rattle.rdb_objects.proofs.TreeSteps.{tree_beside}
+use Rattle.rdb_objects.proofs.Removing.{header_not_free}
+use Rattle.rdb_objects.proofs.TreeLemmas.{in_cells, slot_in_cell}
+use Rattle.rdb_objects.proofs.TreeSteps.{tree_beside, free_no_head, free_no_slot}
 
 still_versions : (before after : Image) (id : ℕ) (vs : List CellRef) → ((v older : CellRef) → Contains vs v → IsVersion before id v older → IsVersion after id v older) → AreVersions before id vs → AreVersions after id vs
 still_versions before after id [] same are = tt
@@ -28,6 +30,25 @@ rests before after class objects cells holds same links = record {
   cells_are = holds.cells_are;
 }
 
+-- a write to a free cell leaves the objects
+pub free_written : LeavesObjects
+free_written before after class objects cells n cell holds free writes =
+    rests before after class objects cells holds
+    (λ m within. elim within [
+      | inl head ↦ writes.elsewhere m (λ e. free_no_head before class holds.slots holds.tree n free (head ∙ e))
+      | inr slot ↦
+          let s = slot_in_cell holds.slots m (subst (λ (ns : List ℕ). IsAmong ns m) holds.cells_are slot) in
+          writes.elsewhere m (λ e. free_no_slot before class holds.slots holds.tree n free s.0 s.1 (s.2 ∙ e))
+    ])
+    (λ id version older within is. record {
+      some = is.some;
+      cell = is.cell;
+      here = writes.elsewhere version.number (λ e. header_not_free before id version older is n free (sym e)) ∙ is.here;
+      kind = is.kind;
+      of_object = is.of_object;
+      leads = is.leads;
+    })
+
 -- the header of an object's version
 pub version_of : (image : Image) (class : ℕ) (objects : List Object) (cells : List ℕ) → HoldsObjects image class objects cells → (id : ℕ) (version : CellRef) → Contains (versions_of objects id) version → (v : CellRef) × (older : CellRef) × IsVersion image id v older × (v.number ≡ version.number)
 version_of image class objects cells holds id version within = elim (holds.objects_are.slotted id) [
@@ -43,3 +64,23 @@ of_one image class objects cells holds a b version first second =
     let one = version_of image class objects cells holds a version first in
     let other = version_of image class objects cells holds b version second in
     (one_header image a b one.0 other.0 one.1 other.1 one.2 other.2 (one.3 ∙ sym other.3)).0
+
+-- an empty head leads to no slot
+pub empty_holds : StartsEmpty
+empty_holds image class empty = record {
+  slots = [];
+  tree = record {
+    rooted = record {
+      cell = class_head_cell empty_class_head;
+      here = empty;
+      kind = refl;
+      root = record { there = inl refl; only = λ s none path. absurd none };
+    };
+    each = λ s none. absurd none;
+    once = tt;
+    ids = λ s t none also same. absurd none;
+  };
+  versions = λ s none. absurd none;
+  objects_are = record { told = λ s none. absurd none; slotted = λ id. inl refl; once = tt; have = tt };
+  cells_are = refl;
+}

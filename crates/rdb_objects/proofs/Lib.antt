@@ -11,3 +11,4 @@ pub mod Removing
 pub mod RemovingSlots
 pub mod Moving
 pub mod Removable
+pub mod TestLemmas

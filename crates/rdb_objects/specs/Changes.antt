@@ -2,9 +2,10 @@
 use Rattle.std.specs.Prelude.{◌≡◌, ◌+◌, ◌≤◌, ◌⊎◌, ℕ, List, [], ◌∷◌, length, map, Some, Contains}
 use Rattle.rdb_pages.specs.declared.cell.Cell.{Cell}
 use Rattle.rdb_pages.specs.declared.cell.CellRef.{CellRef}
+use Rattle.rdb_pages.specs.Pages.{zero_cell}
 use Rattle.rdb_cells.specs.declared.kind.Kind.TheVariants as kind
 use Rattle.rdb_cells.specs.HeadFormat.{class_head_cell, empty_class_head}
-use Rattle.rdb_cells.specs.Images.{Image}
+use Rattle.rdb_cells.specs.Images.{Image, Writes}
 use Rattle.rdb_cells.specs.Index.{KeepsAccount}
 use Rattle.rdb_cells.specs.Keys.{SameVersionCells, IsOfVersion}
 use Rattle.rdb_cells.specs.Links.{IsAmong, AreOf, AreOnce, SameOn}
@@ -97,6 +98,11 @@ SameLinks before after objects = (id : ℕ) (version older : CellRef) → Contai
 abbrev pub RestsOnObjects : Type 0
 RestsOnObjects = (before after : Image) (class : ℕ) (objects : List Object) (cells : List ℕ) → HoldsObjects before class objects cells →
     SameOn ((class_head_ref class).number ∷ cells) before after → SameLinks before after objects → HoldsObjects after class objects cells
+
+-- what is written to a free cell leaves the objects as they are
+abbrev pub LeavesObjects : Type 0
+LeavesObjects = (before after : Image) (class : ℕ) (objects : List Object) (cells : List ℕ) (n : ℕ) (cell : Cell) → HoldsObjects before class objects cells →
+    before n ≡ Some zero_cell → Writes before after n cell → HoldsObjects after class objects cells
 
 -- a class with an empty head holds no object in no slot
 abbrev pub StartsEmpty : Type 0

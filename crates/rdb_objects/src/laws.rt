@@ -1,9 +1,15 @@
 //! What every list of objects in cells keeps to. Each call does nothing.
-ghost use Rattle.rdb_objects.specs.Changes.{RestsOnObjects, StartsEmpty, HoldsOne, HoldsInAnyOrder, OfOneObject};
+ghost use Rattle.rdb_objects.specs.Changes.{RestsOnObjects, LeavesObjects, StartsEmpty, HoldsOne, HoldsInAnyOrder, OfOneObject};
 
 /// What objects a class has rests on its head, its slots and the links of its headers alone.
 pub fn objects_rest_on_their_cells()
     ensures { RestsOnObjects }
+{
+}
+
+/// What is written to a free cell leaves the objects as they are.
+pub fn a_free_cell_is_of_no_object()
+    ensures { LeavesObjects }
 {
 }
 
