@@ -16,4 +16,5 @@ pub mod PutLemmas
 pub mod NewTableLemmas
 pub mod EmptyLemmas
 pub mod ListLemmas
+pub mod EmptyHash
 pub mod RemoveLemmas

@@ -1,167 +1,225 @@
-//! A hash index over cells in memory, with keys that are texts.
+//! A hash index over cells in memory, with keys that are all one text.
+ghost use Rattle.std.specs.Prelude.{◌≡◌, ◌+◌, ◌<◌, ◌≤◌, ◌↔◌, IsTrue, Some, true, length};
+ghost use Rattle.rdb_cells.specs.HeadFormat.{index_head_cell, empty_index_head};
+ghost use Rattle.rdb_cells.specs.Images.{IsFree};
+ghost use Rattle.rdb_cells.specs.Index.{LacksVersion};
+ghost use Rattle.rdb_cells.specs.Memory.{memory_image, memory_class};
+ghost use Rattle.rdb_cells.specs.Parts.{hash_part};
+ghost use Rattle.rdb_cells.specs.Words.{IsOfKind};
+ghost use Rattle.rdb_cells.specs.Work.{work, reading, HasLeft};
+ghost use Rattle.rdb_hash.specs.Shape.{hash_nature};
 
+use crate::hash::Hash;
 use rdb_base::identity::Stamp;
 use rdb_base::list::{List, NoMemory};
-use rdb_base::order::order_rows;
-use rdb_base::steps::Steps;
 use rdb_base::text::Text;
-use rdb_base::value::{Leaf, Rect, Row, Value};
+use rdb_base::value::{Leaf, Row, Value};
 use rdb_cells::doubles::memory::MemoryCells;
-use rdb_cells::doubles::one_key::text_in;
+use rdb_cells::doubles::one_key::OneKey;
 use rdb_cells::{
-    Cells, HasPairs, Index, IndexHead, Keys, NONE, Overlay, Plan, Refs, Region, VersionHeader,
-    index_head,
+    Cells, HasPairs, Index, IndexHead, Keys, Kind, NONE, Overlay, Plan, Refs, Region,
+    VersionHeader, index_head,
 };
 use rdb_pages::{Cell, CellRef};
-use std::cmp::Ordering;
+use std::alloc::Global;
 use std::process::Abort;
-use std::sync::ledger::Ledger;
 use std::test::*;
-use crate::Hash;
 
+/// What an index gives: by the key, by another one, and all.
 #[derive(Drop)]
-struct TextKeys {
-    keys: List<Row>,
+struct Answers {
+    found: Result<Refs, NoMemory>,
+    other: Result<Refs, NoMemory>,
+    all: Result<Refs, NoMemory>,
 }
 
-fn fnv(bytes: &[u8]) -> u32 {
-    let mut hash = 2_166_136_261u32;
-    for byte in bytes {
-        hash = (hash ^ (*byte as u32)).wrapping_mul(16_777_619);
+/// Puts the version, and asks for it.
+fn put_and_ask<C: Cells, K: Keys>(
+    hash: &Hash,
+    cells: &mut Overlay<C>,
+    keys: &K,
+    key: &Row,
+    other: &Row,
+    version: CellRef,
+) -> Answers
+    requires class { cells.old.class ≡ hash.now.class }
+    requires lacks { LacksVersion (hash_nature hash.now.class hash.now.head.number) (K.meaning keys.now) (reading (work C.Cells cells.old)) version }
+    requires places { length cells.old.plan.pairs + 50 ≤ cells.old.plan.room }
+    requires free { HasLeft (work C.Cells cells.old) hash_part }
+    requires key { (K.meaning keys.now).fits key.now ≡ true }
+    requires other { (K.meaning keys.now).fits other.now ≡ true }
+{
+    hash.put(cells, keys, version);
+    Answers {
+        found: hash.equal(&*cells, keys, key),
+        other: hash.equal(&*cells, keys, other),
+        all: hash.refs(&*cells),
     }
-    hash
 }
 
-impl TextKeys {
-    fn key_of(&self, id: u64) -> &Row {
-        self.keys.at((id % (self.keys.len() as u64)) as usize)
+/// Puts the version and takes it away again, and lists what is left.
+fn put_and_remove<C: Cells, K: Keys>(
+    hash: &Hash,
+    cells: &mut Overlay<C>,
+    keys: &K,
+    version: CellRef,
+) -> Result<Refs, NoMemory>
+    requires class { cells.old.class ≡ hash.now.class }
+    requires lacks { LacksVersion (hash_nature hash.now.class hash.now.head.number) (K.meaning keys.now) (reading (work C.Cells cells.old)) version }
+    requires places { length cells.old.plan.pairs + 100 ≤ cells.old.plan.room }
+    requires free { HasLeft (work C.Cells cells.old) hash_part }
+{
+    hash.put(cells, keys, version);
+    hash.remove(cells, keys, version);
+    hash.refs(&*cells)
+}
+
+fn is_empty_head(cell: &Cell) -> bool
+    ensures { IsTrue result ↔ (cell.now ≡ index_head_cell empty_index_head) }
+{
+    *cell == IndexHead::empty().to_cell()
+}
+
+fn empty_head_at(rt: &impl Abort, cells: &MemoryCells, at: CellRef)
+    ensures { memory_image cells.now at.number ≡ Some (index_head_cell empty_index_head) }
+{
+    assert!(rt; cells.holds(at), "no cell {}", at.number);
+    assert!(rt;
+        is_empty_head(cells.read(at)),
+        "no empty head at {}",
+        at.number
+    );
+}
+
+fn header_at<'a>(rt: &impl Abort, cells: &'a MemoryCells, at: CellRef) -> &'a Cell
+    ensures held { memory_image cells.now at.number ≡ Some result.now }
+    ensures kind { IsOfKind result.now Kind.Version }
+{
+    assert!(rt; cells.holds(at), "no cell {}", at.number);
+    let cell = cells.read(at);
+    match Kind::of(cell) {
+        Some(Kind::Version) => cell,
+        _ => panic!(rt; "no header at {}", at.number),
     }
 }
 
-impl Keys for TextKeys {
-    ghost meaning = { ? };
-
-    fn order<C: Cells>(&self, cells: &C, a: CellRef, b: CellRef) -> Ordering {
-        Ordering::Equal
+fn free_above(rt: &impl Abort, cells: &MemoryCells, class: u32, above: CellRef) -> CellRef
+    ensures above { above.number < result.number }
+    ensures free { IsFree (memory_image cells.now) (memory_class cells.now) class result.number }
+{
+    match cells.free_after(class, above) {
+        Some(at) => at,
+        None => panic!(rt; "no free cell above {}", above.number),
     }
-
-    fn against<C: Cells, L: Ledger>(
-        &self,
-        cells: &C,
-        version: CellRef,
-        key: &Row,
-        id: Option<u64>,
-        steps: &mut Steps<L>,
-    ) -> Ordering {
-        Ordering::Equal
-    }
-
-    fn same<C: Cells>(&self, cells: &C, version: CellRef, key: &Row) -> bool {
-        let id = VersionHeader::id_in(cells.read(version));
-        match order_rows(self.key_of(id), key) {
-            Ordering::Equal => true,
-            _ => false,
-        }
-    }
-
-    fn hash<C: Cells>(&self, cells: &C, version: CellRef) -> u32 {
-        let id = VersionHeader::id_in(cells.read(version));
-        self.hash_of(self.key_of(id))
-    }
-
-    fn hash_of(&self, key: &Row) -> u32 {
-        match text_in(key) {
-            Some(text) => fnv(text.as_str().as_bytes()),
-            None => fnv(&[]),
-        }
-    }
-
-    fn byte<C: Cells>(&self, _cells: &C, _version: CellRef, place: u32) -> Option<u8> {
-        None
-    }
-
-    fn rect<C: Cells>(&self, _cells: &C, _version: CellRef) -> Rect {
-        Rect { x1: 0, y1: 0, x2: 0, y2: 0 }
-    }
-
-    ghost keys_fit = { ? };
-
-    ghost rests_on_versions = { ? };
-
-    ghost stands_at_header = { ? };
 }
 
-fn key(rt: &HostRuntime, n: u32) -> Result<Row, NoMemory> {
-    let mut key = List::new(rt.alloc());
-    let text = format!(in rt.alloc(); "key {n}")?;
-    key.push(Value::Leaf(Leaf::Text(Text::of(rt.alloc(), text.as_str())?)))?;
+fn set(rt: &impl Abort, cells: &mut MemoryCells, at: CellRef, cell: Cell) {
+    assert!(rt; cells.holds(at), "no cell {}", at.number);
+    cells.write(at, cell);
+}
+
+/// Asks an empty index after a put, and returns the plan besides.
+fn asked(
+    rt: &impl Abort,
+    cells: &MemoryCells,
+    hash: &Hash,
+    keys: &OneKey,
+    other: &Row,
+    version: CellRef,
+) -> Result<(Answers, Plan), NoMemory> {
+    empty_head_at(rt, cells, hash.head);
+    let _header = header_at(rt, cells, version);
+    let lower = free_above(rt, cells, hash.class, NONE);
+    let _upper = free_above(rt, cells, hash.class, lower);
+    let plan = Plan::reserve(hash.alloc, 150)?;
+    let mut overlay = Overlay::over(cells, plan, hash.class);
+    let answers = put_and_ask(hash, &mut overlay, keys, &keys.key, other, version);
+    Ok((answers, overlay.plan()))
+}
+
+/// Lists an empty index after a put and a remove, and returns the plan besides.
+fn emptied(
+    rt: &impl Abort,
+    cells: &MemoryCells,
+    hash: &Hash,
+    keys: &OneKey,
+    version: CellRef,
+) -> Result<(Refs, Plan), NoMemory> {
+    empty_head_at(rt, cells, hash.head);
+    let _header = header_at(rt, cells, version);
+    let lower = free_above(rt, cells, hash.class, NONE);
+    let _upper = free_above(rt, cells, hash.class, lower);
+    let plan = Plan::reserve(hash.alloc, 150)?;
+    let mut overlay = Overlay::over(cells, plan, hash.class);
+    let refs = put_and_remove(hash, &mut overlay, keys, version);
+    let plan = overlay.plan();
+    Ok((refs?, plan))
+}
+
+fn key_of(alloc: Global, text: &str) -> Result<Row, NoMemory> {
+    let mut key = List::new(alloc);
+    key.push(Value::Leaf(Leaf::Text(Text::of(alloc, text)?)))?;
     Ok(key)
 }
 
-fn apply(cells: &mut MemoryCells, mut plan: Plan) {
-    while plan.len() > 0 {
-        let pair = plan.pop();
-        cells.write(pair.at, pair.cell);
-    }
+/// Returns cells with a page of class 0, the heads of two of its indexes, and a version in cell 1.
+fn cells_with_version(rt: &impl Abort, alloc: Global) -> Result<MemoryCells, NoMemory> {
+    let mut cells = MemoryCells::new(alloc, &[0], 3)?;
+    let header = VersionHeader {
+        older: NONE,
+        class: 0,
+        tombstone: false,
+        id: 7,
+        first_row: NONE,
+        row_length: 0,
+        stamp: Stamp::Done(1),
+        serial: 1,
+    };
+    set(rt, &mut cells, CellRef { number: 1 }, header.to_cell());
+    set(
+        rt,
+        &mut cells,
+        index_head(0, 1),
+        IndexHead::empty().to_cell(),
+    );
+    Ok(cells)
+}
+
+fn number_of_first(refs: &Refs) -> Option<u32> {
+    refs.as_slice().first().map(|at| at.number)
 }
 
 #[test]
-fn many(rt: HostRuntime) -> Result<(), Fail> {
-    let mut pages: Vec<u32> = Vec::new(rt.alloc());
-    for i in 0..60u32 {
-        pages.push(0)?;
+fn a_version_is_found_by_its_key_alone(rt: HostRuntime) -> Result<(), Fail> {
+    let cells = cells_with_version(&rt, rt.alloc())?;
+    let hash = Hash::of(rt.alloc(), 0, 1);
+    let keys = OneKey {
+        key: key_of(rt.alloc(), "oak")?,
+    };
+    let other = key_of(rt.alloc(), "elm")?;
+    let (answers, plan) = asked(&rt, &cells, &hash, &keys, &other, CellRef { number: 1 })?;
+    let found = answers.found?;
+    assert_eq!(rt; (found.len(), number_of_first(&found)), (1, Some(1)));
+    assert_eq!(rt; answers.other?.len(), 0);
+    assert_eq!(rt; number_of_first(&answers.all?), Some(1));
+    // the hash of no bytes, 2166136261, belongs to bucket 61: the second of the fifth table
+    assert_eq!(rt; plan.len(), 3);
+    for (number, word, content) in [(2, 1, 1), (2, 2, 2_166_136_261), (3, 2, 2), (2_000_002, 5, 3)]
+    {
+        let found = plan.get(CellRef { number }).map(|cell| cell.words[word]);
+        assert_eq!(rt; found, Some(content), "cell {number}");
     }
-    let mut cells = MemoryCells::new(rt.alloc(), pages.as_slice(), 16)?;
-    let mut keys = TextKeys { keys: List::new(rt.alloc()) };
-    for n in 0..300u32 {
-        keys.keys.push(key(&rt, n)?)?;
-    }
-    let hash = Hash::of(rt.alloc(), 0, 0);
-    cells.write(hash.head, IndexHead::empty().to_cell());
-    let count = 1000u32;
-    let mut most = 0;
-    for number in 1..count + 1 {
-        let at = CellRef { number };
-        let header = VersionHeader { older: NONE, class: 0, tombstone: false, id: number as u64, first_row: NONE, row_length: 0, stamp: Stamp::Done(1), serial: number as u64 };
-        cells.write(at, header.to_cell());
-    }
-    for i in 0..count {
-        let at = CellRef { number: 1 + (i * 7) % count };
-        let mut overlay = Overlay::over(&cells, Plan::reserve(rt.alloc(), 50)?, 0);
-        hash.put(&mut overlay, &keys, at);
-        let plan = overlay.plan();
-        apply(&mut cells, plan);
-    }
-    let mut refs = hash.refs(&cells)?;
-    assert_eq!(rt; refs.len(), 1000);
-    for n in 0..300u32 {
-        let found = hash.equal(&cells, &keys, keys.keys.at(n as usize))?;
-        let want = if n > 0 && n <= 100 { 4 } else { 3 };
-        assert_eq!(rt; found.len(), want, "n {n}");
-        let mut last = 0;
-        for r in found.as_slice() {
-            assert!(rt; r.number > last && r.number % 300 == n);
-            last = r.number;
-        }
-    }
-    for i in 0..count {
-        let at = CellRef { number: 1 + (i * 13) % count };
-        let mut overlay = Overlay::over(&cells, Plan::reserve(rt.alloc(), 50)?, 0);
-        hash.remove(&mut overlay, &keys, at);
-        let plan = overlay.plan();
-        apply(&mut cells, plan);
-        if i % 100 == 0 {
-            let refs = hash.refs(&cells)?;
-            assert_eq!(rt; refs.len(), (count - i - 1) as usize);
-        }
-    }
-    assert_eq!(rt; *cells.read(hash.head), IndexHead::empty().to_cell());
-    let mut free = 0;
-    let mut at = NONE;
-    while let Some(next) = cells.free_after(0, at) {
-        free += 1;
-        at = next;
-    }
-    assert_eq!(rt; free, 60 * 64 - 1000);
+    Ok(())
+}
+
+#[test]
+fn a_version_that_goes_leaves_no_cell(rt: HostRuntime) -> Result<(), Fail> {
+    let cells = cells_with_version(&rt, rt.alloc())?;
+    let hash = Hash::of(rt.alloc(), 0, 1);
+    let keys = OneKey {
+        key: key_of(rt.alloc(), "oak")?,
+    };
+    let (refs, plan) = emptied(&rt, &cells, &hash, &keys, CellRef { number: 1 })?;
+    assert_eq!(rt; (refs.len(), plan.len()), (0, 0));
     Ok(())
 }
