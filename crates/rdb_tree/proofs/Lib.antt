@@ -10,3 +10,4 @@ pub mod HeadLemmas
 pub mod GatherLemmas
 pub mod EqualLemmas
 pub mod WholeLemmas
+pub mod ChangeLemmas

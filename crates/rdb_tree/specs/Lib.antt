@@ -1,5 +1,6 @@
 pub mod Trees
 pub mod Order
+pub mod Changes
 pub mod Lookups
 pub mod Nature
 pub mod TreeLaws

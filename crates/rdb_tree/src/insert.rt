@@ -1,6 +1,14 @@
 //! A version put into the tree: into a leaf, and a node that has one key too many is split on the way up. It writes nodes, free
 //! cells and the head, in this order on each level: the new right half, then the node. The fourth key goes up.
-use crate::node::{children_of, joined, keys_of, node_at, node_of, with_one};
+ghost use Rattle.std.specs.Prelude.{◌≡◌, ◌≤◌, ◌<◌, ◌+◌, ◌∷◌, [], List, length, take, drop, slice_get, Some};
+ghost use Rattle.rdb_pages.specs.declared.cell.CellRef.{CellRef as RefValue};
+ghost use Rattle.rdb_cells.specs.Images.{IsCell};
+ghost use Rattle.rdb_cells.specs.TreeFormat.{most_children};
+ghost use Rattle.rdb_cells.specs.Work.{work, reading};
+ghost use Rattle.rdb_tree.specs.Changes.{IsNodeAt, FitsKeys, CanTake, HasPlaces, IsLowest, PutsInto, IsNewRoot, split_work, raised_keys, raised_children, FitsPlace};
+ghost use Rattle.rdb_tree.specs.Trees.{most_refs};
+
+use crate::node::{Row, children_of, joined, keys_of, node_at, node_of, with_one};
 use crate::path::{Path, Step};
 use crate::search::count_before;
 use crate::tree::Tree;
@@ -34,12 +42,16 @@ pub(crate) fn put<C: Cells, K: Keys>(
         right: NONE,
     };
     while let Some(step) = path.pop() {
-        match put_into(tree, cells, step, raised) {
+        match put_into(cells, step, raised) {
             Some(higher) => raised = higher,
             None => return,
         }
     }
-    grow(tree, cells, root, raised);
+    if root == NONE {
+        grow(cells, tree.head, raised.key, &[]);
+    } else {
+        grow(cells, tree.head, raised.key, &[root, raised.right]);
+    }
 }
 
 /// Appends the steps from a node down to the place in a leaf where the version belongs.
@@ -61,25 +73,43 @@ fn descend<C: Cells, K: Keys>(
 
 /// Puts what was raised into a node. Where the node is full, its right half goes into a new cell, and the middle key is
 /// raised.
-fn put_into<C: Cells>(
-    tree: &Tree,
-    cells: &mut Overlay<C>,
-    step: Step,
-    raised: Raised,
-) -> Option<Raised> {
+fn put_into<C: Cells>(cells: &mut Overlay<C>, step: Step, raised: Raised) -> Option<Raised>
+    requires node { (keys : List RefValue) × (children : List RefValue)
+        × IsNodeAt (reading (work C.Cells cells.old)) step.at keys children × (step.place ≤ length keys) }
+    requires free { CanTake (work C.Cells cells.old) }
+    requires places { HasPlaces (work C.Cells cells.old) 2 }
+    ensures work { (keys children : List RefValue) → IsNodeAt (reading (work C.Cells cells.old)) step.at keys children →
+        PutsInto (work C.Cells cells.old) (work C.Cells cells.new) step.at (raised_keys step.place raised.key keys)
+        (raised_children step.place raised.right children) result }
+    ensures below { (cells.new.cells ≡ cells.old.cells) × (cells.new.class ≡ cells.old.class) }
+{
     let node = node_at(&*cells, step.at);
     let versions = with_one(keys_of(&node), step.place, raised.key);
-    let children = if node.leaf {
-        joined(&[], &[], &[])
-    } else {
-        with_one(children_of(&node), step.place + 1, raised.right)
-    };
+    let children = with_child(children_of(&node), step.place, raised.right);
     if versions.as_slice().len() <= TREE_KEYS {
         let node = node_of(versions.as_slice(), children.as_slice());
         cells.put(step.at, node.to_cell());
         return None;
     }
-    Some(split(cells, step.at, versions.as_slice(), children.as_slice()))
+    Some(split(
+        cells,
+        step.at,
+        versions.as_slice(),
+        children.as_slice(),
+    ))
+}
+
+/// Returns the children of a node with one more behind a place, and none of a leaf.
+fn with_child(children: &[CellRef], place: usize, right: CellRef) -> Row
+    requires place { FitsPlace place children.now }
+    requires room { length children.now < most_refs }
+    ensures { result ≡ raised_children place right children.now }
+{
+    if children.is_empty() {
+        joined(&[], &[], &[])
+    } else {
+        with_one(children, place + 1, right)
+    }
 }
 
 /// Writes the right half of an overfull node into a new cell, and the left half into the node's, and raises the key between.
@@ -88,31 +118,54 @@ fn split<C: Cells>(
     at: CellRef,
     versions: &[CellRef],
     children: &[CellRef],
-) -> Raised {
-    let (left_children, right_children) = if children.is_empty() {
-        (children, children)
-    } else {
-        children.split_at(MIDDLE + 1)
-    };
+) -> Raised
+    requires node { IsCell (reading (work C.Cells cells.old)) at.number }
+    requires versions { length versions.now ≡ 8 }
+    requires children { FitsKeys versions.now children.now }
+    requires free { CanTake (work C.Cells cells.old) }
+    requires places { HasPlaces (work C.Cells cells.old) 2 }
+    ensures key { slice_get versions.now 3 ≡ Some result.key }
+    ensures lowest { IsLowest (work C.Cells cells.old) result.right }
+    ensures work { work C.Cells cells.new ≡ split_work (work C.Cells cells.old) result.right at versions.now children.now }
+    ensures below { (cells.new.cells ≡ cells.old.cells) × (cells.new.class ≡ cells.old.class) }
+{
+    let (left_children, right_children) = halves_of(children);
+    let (_, right_versions) = versions.split_at(MIDDLE + 1);
+    let (left_versions, _) = versions.split_at(MIDDLE);
     let right = cells.take();
-    let half = node_of(&versions[MIDDLE + 1..], right_children);
-    cells.put(right, half.to_cell());
-    let half = node_of(&versions[..MIDDLE], left_children);
-    cells.put(at, half.to_cell());
+    let behind = node_of(right_versions, right_children);
+    cells.put(right, behind.to_cell());
+    let before = node_of(left_versions, left_children);
+    cells.put(at, before.to_cell());
     Raised {
         key: versions[MIDDLE],
         right,
     }
 }
 
-/// Makes a new root above the old one, if there is one, with the key that was raised.
-fn grow<C: Cells>(tree: &Tree, cells: &mut Overlay<C>, root: CellRef, raised: Raised) {
-    let top = cells.take();
-    let node = if root == NONE {
-        node_of(&[raised.key], &[])
+/// Lends the children that stay in the left half of an overfull node, and those that go to the right one: none of a leaf.
+fn halves_of(children: &[CellRef]) -> (&[CellRef], &[CellRef])
+    ensures left { result.0.now ≡ take 4 children.now }
+    ensures right { result.1.now ≡ drop 4 children.now }
+{
+    if children.len() <= MIDDLE {
+        (children, &[])
     } else {
-        node_of(&[raised.key], &[root, raised.right])
-    };
+        children.split_at(MIDDLE + 1)
+    }
+}
+
+/// Makes a new root with one key above these nodes, or none.
+fn grow<C: Cells>(cells: &mut Overlay<C>, head: CellRef, key: CellRef, children: &[CellRef])
+    requires head { IsCell (reading (work C.Cells cells.old)) head.number }
+    requires children { length children.now ≤ most_children }
+    requires free { CanTake (work C.Cells cells.old) }
+    requires places { HasPlaces (work C.Cells cells.old) 2 }
+    ensures root { IsNewRoot (work C.Cells cells.old) (work C.Cells cells.new) head (key ∷ []) children.now }
+    ensures below { (cells.new.cells ≡ cells.old.cells) × (cells.new.class ≡ cells.old.class) }
+{
+    let top = cells.take();
+    let node = node_of(&[key], children);
     cells.put(top, node.to_cell());
-    cells.put(tree.head, IndexHead::rooted(top).to_cell());
+    cells.put(head, IndexHead::rooted(top).to_cell());
 }
