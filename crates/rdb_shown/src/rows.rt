@@ -1,6 +1,6 @@
 //! What versions show: object by object, and before anything was written.
 
-ghost use Rattle.std.specs.Prelude.{◌≡◌, ℕ, List, [], replicate, Option, None};
+ghost use Rattle.std.specs.Prelude.{◌≡◌, ℕ, List, [], replicate, Option, Some, None};
 ghost use Rattle.rdb_base.specs.declared.identity.TxId.{TxId};
 ghost use Rattle.rdb_base.specs.declared.journal.Entry.{Entry};
 ghost use Rattle.rdb_sight.specs.Versions.{Versions, Marks, chain_in, shown, row_shown};
@@ -25,8 +25,11 @@ pub fn nothing_shows_nothing()
     ensures kept { (classes : ℕ) (journal : List Entry) (marks : Marks) → AreVersions journal marks (replicate classes []) }
 {}
 
-/// A transaction that has no version has the work of no operations, whatever its snapshot.
+/// A transaction that has no version is shown what its snapshot shows, and has the work of no operations.
 pub fn no_version_is_no_work()
-    ensures { (marks : Marks) (versions : Versions) (tx : TxId) (snapshot : ℕ) → marks tx ≡ None → HasNone versions tx →
+    ensures shown { (journal : List Entry) (marks : Marks) (versions : Versions) (tx : TxId) (snapshot : ℕ) →
+        AreVersions journal marks versions → marks tx ≡ None → HasNone versions tx →
+        shown marks snapshot (Some tx) versions ≡ shown marks snapshot None versions }
+    ensures work { (marks : Marks) (versions : Versions) (tx : TxId) (snapshot : ℕ) → marks tx ≡ None → HasNone versions tx →
         IsWork marks versions tx snapshot [] }
 {}
