@@ -8,3 +8,4 @@ pub mod VersionLemmas
 pub mod VersionPlans
 pub mod Rooms
 pub mod Decodings
+pub mod SpotLemmas
