@@ -1,0 +1,1 @@
+//! Lookups over versions put by the store.

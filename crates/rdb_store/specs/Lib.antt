@@ -1,0 +1,10 @@
+pub mod Shapes
+pub mod ClassIndexes
+pub mod Layouts
+pub mod Stored
+pub mod Holds
+pub mod Laws
+pub mod Chains
+pub mod Plans
+pub mod Lookups
+pub mod Kept
