@@ -19,7 +19,7 @@ pub record ClassNature : Type 1 where
 
 -- the number of the head of the class's index at a place
 abbrev pub head_at : ClassNature → ℕ → ℕ
-head_at class place = let keyed = class.at place in keyed.index.head
+head_at class place = (class.at place).index.head
 
 -- the number is that of the class's head, or of the head of one of its indexes
 abbrev pub IsHeadOf : ClassNature → ℕ → Type 0

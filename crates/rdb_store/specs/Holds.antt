@@ -22,7 +22,7 @@ pub record Agrees (index : Nature) (keys : Meaning) (image : Image) (objects : L
 -- each index of the class agrees with its objects
 abbrev pub AllAgree : ClassNature → Image → List Object → Layout → Type 0
 AllAgree class image objects layout = (place : ℕ) → place < class.count →
-    let keyed = class.at place in Agrees keyed.index keyed.keys image objects (layout.of_index place)
+    Agrees (class.at place).index (class.at place).keys image objects (layout.of_index place)
 
 -- the class has this part
 abbrev pub IsPart : ClassNature → List Object → Part → Type 0

@@ -1,3 +1,4 @@
+pub mod Classes
 pub mod Shapes
 pub mod ClassIndexes
 pub mod Layouts

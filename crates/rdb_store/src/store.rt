@@ -44,7 +44,7 @@ impl Store {
     ghost use Rattle.rdb_store.specs.Holds.{HoldsSome, Whatever};
     ghost use Rattle.rdb_store.specs.Plans.{Restamps};
     ghost use Rattle.rdb_store.specs.Plans.{IsFresh, HoldsBelow, WhateverBelow, WhateverRow, Puts, Drops, PlansOnlyClass};
-    ghost use Rattle.rdb_store.specs.Shapes.{IsServed, shapes_of, shape_in, claim_in};
+    ghost use Rattle.rdb_store.specs.Shapes.{IsServed, shapes_of, shape_in, class_in, claim_in};
     ghost use Rattle.rdb_store.specs.Stored.{HasHeader};
 
     /// Makes the store of a schema, every index of which is a hash or a tree. The cost grows with the schema. The only error is
@@ -82,15 +82,15 @@ impl Store {
     ) -> CellRef
         requires class { new.now.class < length self.now }
         requires fresh { IsFresh new.now.class (work C.Cells cells.old) }
-        requires holds { HoldsBelow (shape_in self.now new.now.class) (work C.Cells cells.old) }
-        requires serial { WhateverBelow (shape_in self.now new.now.class) (work C.Cells cells.old) (IsNewSerial new.now.serial) }
-        requires replaces { WhateverBelow (shape_in self.now new.now.class) (work C.Cells cells.old)
+        requires holds { HoldsBelow (class_in self.now new.now.class) (work C.Cells cells.old) }
+        requires serial { WhateverBelow (class_in self.now new.now.class) (work C.Cells cells.old) (IsNewSerial new.now.serial) }
+        requires replaces { WhateverBelow (class_in self.now new.now.class) (work C.Cells cells.old)
             (λ objects. CanReplace new.now.replaces (chain_of objects new.now.id)) }
-        requires row { (row : List Value) × Encodes (shape_in self.now new.now.class).types row bytes.now }
+        requires row { (row : List Value) × Encodes (class_in self.now new.now.class).types row bytes.now }
         requires short { length bytes.now ≤ MAX_ROW }
         requires free { HasLeft (work C.Cells cells.old) (claim_in (shape_in self.now new.now.class) (length bytes.now)) }
-        ensures puts { WhateverRow (shape_in self.now new.now.class) bytes.now
-            (Puts (shape_in self.now new.now.class) (work C.Cells cells.old) (work C.Cells cells.new) new.now result.number) }
+        ensures puts { WhateverRow (class_in self.now new.now.class) bytes.now
+            (Puts (class_in self.now new.now.class) (work C.Cells cells.old) (work C.Cells cells.new) new.now result.number) }
         ensures own { PlansOnlyClass new.now.class (work C.Cells cells.new) }
         ensures claim { TakesAtMost (claim_in (shape_in self.now new.now.class) (length bytes.now))
             (work C.Cells cells.old) (work C.Cells cells.new) }
@@ -112,14 +112,14 @@ impl Store {
     pub fn plan_tombstone<C: Cells>(&self, new: &NewVersion, cells: &mut Overlay<C>) -> CellRef
         requires class { new.now.class < length self.now }
         requires fresh { IsFresh new.now.class (work C.Cells cells.old) }
-        requires holds { HoldsBelow (shape_in self.now new.now.class) (work C.Cells cells.old) }
-        requires object { WhateverBelow (shape_in self.now new.now.class) (work C.Cells cells.old)
+        requires holds { HoldsBelow (class_in self.now new.now.class) (work C.Cells cells.old) }
+        requires object { WhateverBelow (class_in self.now new.now.class) (work C.Cells cells.old)
             (λ objects. chain_of objects new.now.id ≢ []) }
-        requires serial { WhateverBelow (shape_in self.now new.now.class) (work C.Cells cells.old) (IsNewSerial new.now.serial) }
-        requires replaces { WhateverBelow (shape_in self.now new.now.class) (work C.Cells cells.old)
+        requires serial { WhateverBelow (class_in self.now new.now.class) (work C.Cells cells.old) (IsNewSerial new.now.serial) }
+        requires replaces { WhateverBelow (class_in self.now new.now.class) (work C.Cells cells.old)
             (λ objects. CanReplace new.now.replaces (chain_of objects new.now.id)) }
         requires free { HasLeft (work C.Cells cells.old) 1 }
-        ensures puts { Puts (shape_in self.now new.now.class) (work C.Cells cells.old) (work C.Cells cells.new) new.now result.number None }
+        ensures puts { Puts (class_in self.now new.now.class) (work C.Cells cells.old) (work C.Cells cells.new) new.now result.number None }
         ensures own { PlansOnlyClass new.now.class (work C.Cells cells.new) }
         ensures claim { TakesAtMost 1 (work C.Cells cells.old) (work C.Cells cells.new) }
         ensures room { cells.new.plan.room ≡ cells.old.plan.room }
@@ -140,9 +140,9 @@ impl Store {
     pub fn plan_drop<C: Cells>(&self, class: u32, version: CellRef, cells: &mut Overlay<C>)
         requires class { class < length self.now }
         requires fresh { IsFresh class (work C.Cells cells.old) }
-        requires holds { HoldsBelow (shape_in self.now class) (work C.Cells cells.old) }
-        requires version { WhateverBelow (shape_in self.now class) (work C.Cells cells.old) (λ objects. HasHeader objects version.number) }
-        ensures drops { Drops (shape_in self.now class) (work C.Cells cells.old) (work C.Cells cells.new) version.number }
+        requires holds { HoldsBelow (class_in self.now class) (work C.Cells cells.old) }
+        requires version { WhateverBelow (class_in self.now class) (work C.Cells cells.old) (λ objects. HasHeader objects version.number) }
+        ensures drops { Drops (class_in self.now class) (work C.Cells cells.old) (work C.Cells cells.new) version.number }
         ensures own { PlansOnlyClass class (work C.Cells cells.new) }
         ensures takes_none { TakesNone (work C.Cells cells.old) (work C.Cells cells.new) }
         ensures room { cells.new.plan.room ≡ cells.old.plan.room }
@@ -155,11 +155,11 @@ impl Store {
     /// with that stamp. The cost is that of one read.
     pub fn stamped<C: Cells>(&self, class: u32, version: CellRef, stamp: Stamp, cells: &C) -> Cell
         requires class { class < length self.now }
-        requires holds { HoldsSome (shape_in self.now class) (C.image cells.now) (C.class_of cells.now) }
-        requires version { Whatever (shape_in self.now class) (C.image cells.now) (C.class_of cells.now)
+        requires holds { HoldsSome (class_in self.now class) (C.image cells.now) (C.class_of cells.now) }
+        requires version { Whatever (class_in self.now class) (C.image cells.now) (C.class_of cells.now)
             (λ objects. HasHeader objects version.number) }
         ensures { (after : Image) → Writes (C.image cells.now) after version.number result →
-            Restamps (shape_in self.now class) (C.image cells.now) after (C.class_of cells.now) version.number stamp }
+            Restamps (class_in self.now class) (C.image cells.now) after (C.class_of cells.now) version.number stamp }
     {
         with_stamp(cells, version, stamp)
     }
