@@ -14,7 +14,7 @@ use Rattle.rdb_cells.specs.Images.{Image}
 use Rattle.rdb_cells.specs.Index.{Nature}
 use Rattle.rdb_cells.specs.Keys.{Meaning, Sayings}
 use Rattle.rdb_cells.specs.References.{index_head_ref}
-use Rattle.rdb_rows.specs.RowKeys.{key_meaning}
+use Rattle.rdb_rows.specs.RowKeys.{key_meaning, picked}
 use Rattle.rdb_hash.specs.Shape.{hash_nature}
 use Rattle.rdb_tree.specs.Nature.{tree_nature}
 use Rattle.rdb_space.specs.Claim.{part_of_kind, row_cells}
@@ -79,7 +79,11 @@ nature_of_class shape = record {
   number = shape.number;
   types = shape.types;
   count = length shape.indexes;
-  at = λ place. record { index = nature_of shape.number place (index_at shape place).kind; keys = meaning_of shape (index_at shape place) };
+  at = λ place. record {
+    index = nature_of shape.number place (index_at shape place).kind;
+    keys = meaning_of shape (index_at shape place);
+    key_in = λ row. picked row (index_at shape place).fields;
+  };
 }
 
 -- the class with this number, of a store and of a schema

@@ -11,7 +11,6 @@ mod plans;
 mod store;
 #[cfg(test)]
 mod tests;
-mod walk;
 
 pub use class_index::ClassIndex;
 pub use class_store::{ClassStore, KeyedIndex};

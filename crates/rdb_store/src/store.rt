@@ -9,11 +9,10 @@ ghost use Rattle.rdb_sight.specs.Versions.{chain_of};
 
 use crate::class_store::ClassStore;
 use crate::plans::{NewVersion, put_death, put_row, take_out};
-use crate::walk::gather_newest;
 use rdb_base::identity::Stamp;
 use rdb_base::limits::MAX_ROW;
 use rdb_base::list::{List, NoMemory};
-use rdb_cells::{Cells, Overlay, Refs};
+use rdb_cells::{Cells, Overlay};
 use rdb_pages::{Cell, CellRef};
 use rdb_rows::with_stamp;
 use rdb_schema::schema::Schema;
@@ -23,7 +22,6 @@ use std::marker::Model;
 /// The store of each class of a schema. Contracts see the classes' shapes.
 #[derive(Drop)]
 pub struct Store {
-    alloc: Global,
     classes: List<ClassStore>,
 }
 
@@ -58,7 +56,7 @@ impl Store {
         for number in 0..schema.classes.len() {
             classes.push(ClassStore::of(alloc, schema, number as u32)?)?;
         }
-        Ok(Store { alloc, classes })
+        Ok(Store { classes })
     }
 
     /// Lends what is kept of a class.
@@ -162,13 +160,5 @@ impl Store {
             Restamps (class_in self.now class) (C.image cells.now) after (C.class_of cells.now) version.number stamp }
     {
         with_stamp(cells, version, stamp)
-    }
-
-    /// Lists the newest version of each object of a class. The only error is want of memory. The cost grows with the number of
-    /// objects.
-    pub fn newest<C: Cells>(&self, class: u32, cells: &C) -> Result<Refs, NoMemory> {
-        let mut newest = List::new(self.alloc);
-        gather_newest(cells, class, &mut newest)?;
-        Ok(newest)
     }
 }
