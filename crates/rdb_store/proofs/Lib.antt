@@ -1,3 +1,6 @@
 pub mod Lists
 pub mod Storing
 pub mod Framing
+pub mod ChainMaps
+pub mod Starting
+pub mod OneList
