@@ -4,3 +4,5 @@ pub mod Framing
 pub mod ChainMaps
 pub mod Starting
 pub mod OneList
+pub mod Parts
+pub mod IndexSteps

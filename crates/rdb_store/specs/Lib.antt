@@ -6,6 +6,7 @@ pub mod Stored
 pub mod Holds
 pub mod Laws
 pub mod Chains
+pub mod Midway
 pub mod Plans
 pub mod Lookups
 pub mod Kept
