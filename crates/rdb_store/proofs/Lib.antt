@@ -6,3 +6,4 @@ pub mod Starting
 pub mod OneList
 pub mod Parts
 pub mod IndexSteps
+pub mod IndexPuts

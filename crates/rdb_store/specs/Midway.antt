@@ -1,5 +1,5 @@
 -- What a class's cells hold in the middle of a plan: a version may stand in no chain, and an index may lack one.
-use Rattle.std.specs.Prelude.{◌≡◌, ◌≢◌, ◌<◌, ◌⊎◌, ◌↔◌, ℕ, List, Option, Some, Contains}
+use Rattle.std.specs.Prelude.{◌≡◌, ◌≢◌, ◌<◌, ◌≤◌, ◌⊎◌, ◌↔◌, ℕ, List, Option, Some, Contains}
 use Rattle.rdb_pages.specs.declared.cell.CellRef.{CellRef}
 use Rattle.rdb_pages.specs.Pages.{zero_cell}
 use Rattle.rdb_cells.specs.Images.{Image}
@@ -11,7 +11,7 @@ use Rattle.rdb_rows.specs.Versions.{Version as StoredVersion, HoldsVersion}
 use Rattle.rdb_sight.specs.Versions.{Object, IsAscending, chain_of}
 use Rattle.rdb_store.specs.Classes.{ClassNature, KeyedNature, IsHeadOf}
 use Rattle.rdb_store.specs.Layouts.{Part, Slots, OfVersion, OfIndex, Layout, cells_in}
-use Rattle.rdb_store.specs.Stored.{all_linked, AreStored, HasHeader, HaveOwnSerials}
+use Rattle.rdb_store.specs.Stored.{all_linked, AreStored, HasHeader, HasRowAt, HaveOwnSerials}
 
 -- the cell is one of such a part
 pub record IsInSome (Is : Part → Type 0) (layout : Layout) (n : ℕ) : Type 0 where
@@ -49,3 +49,11 @@ pub record IsMidway (class : ClassNature) (image : Image) (class_of : ℕ → Op
   pub indexes : (place : ℕ) → place < class.count → ListsSuch (class.at place) image (Such place) (layout.of_index place)
   pub serials : HaveOwnSerials objects
   pub account : Accounts class (IsMidPart class objects Loose) image class_of layout
+
+-- the headers that the index at a place lists while a version is put into one index after another: it is in those before the next one
+abbrev pub BeforePut : List Object → ℕ → ℕ → ℕ → ℕ → Type 0
+BeforePut objects version next place n = HasRowAt objects n × ((place < next) ⊎ (n ≢ version))
+
+-- those that it lists while a version is taken from one after another: it isn't in those before the next one
+abbrev pub AfterTake : List Object → ℕ → ℕ → ℕ → ℕ → Type 0
+AfterTake objects version next place n = HasRowAt objects n × ((next ≤ place) ⊎ (n ≢ version))
