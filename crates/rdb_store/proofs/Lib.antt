@@ -7,3 +7,4 @@ pub mod OneList
 pub mod Parts
 pub mod IndexSteps
 pub mod IndexPuts
+pub mod IndexLoops

@@ -57,3 +57,7 @@ pub record AreLawful (class : ClassNature) : Type 0 where
   pub heads : (n : ℕ) → IsHeadOf class n → IsHead n
   pub apart : (place other : ℕ) → place < class.count → other < class.count → place ≢ other → head_at class place ≢ head_at class other
   pub from_class : (place : ℕ) → place < class.count → head_at class place ≢ (class_head_ref class.number).number
+
+-- the nature of an index that never stands
+abbrev pub never : ℕ → ℕ → Nature
+never class head = record { class = class; head = head; part = 0; Stands = λ said image listed nodes. ⊥ }

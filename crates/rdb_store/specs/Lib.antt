@@ -7,6 +7,7 @@ pub mod Holds
 pub mod Laws
 pub mod Chains
 pub mod Midway
+pub mod Indexed
 pub mod Plans
 pub mod Lookups
 pub mod Kept

@@ -9,16 +9,14 @@ use Rattle.rdb_schema.specs.declared.schema.Schema.{Schema}
 use Rattle.rdb_schema.specs.declared.types.ValueType.{ValueType}
 use Rattle.rdb_schema.specs.Indexes.{indexes_of}
 use Rattle.rdb_schema.specs.Types.{types_of}
-use Rattle.rdb_pages.specs.declared.cell.CellRef.{CellRef}
-use Rattle.rdb_cells.specs.Images.{Image}
 use Rattle.rdb_cells.specs.Index.{Nature}
-use Rattle.rdb_cells.specs.Keys.{Meaning, Sayings}
+use Rattle.rdb_cells.specs.Keys.{Meaning}
 use Rattle.rdb_cells.specs.References.{index_head_ref}
 use Rattle.rdb_rows.specs.RowKeys.{key_meaning, picked}
 use Rattle.rdb_hash.specs.Shape.{hash_nature}
 use Rattle.rdb_tree.specs.Nature.{tree_nature}
 use Rattle.rdb_space.specs.Claim.{part_of_kind, row_cells}
-use Rattle.rdb_store.specs.Classes.{ClassNature}
+use Rattle.rdb_store.specs.Classes.{ClassNature, never}
 
 -- an index: its kind, and the numbers of its key's fields
 pub record IndexShape : Type 0 where
@@ -54,10 +52,6 @@ no_class = record { number = 0; types = []; indexes = [] }
 -- the shape of the class with this number
 abbrev pub shape_in : List ClassShape → ℕ → ClassShape
 shape_in shapes class = slice_index_or shapes class no_class
-
--- the nature of an index that never stands
-abbrev pub never : ℕ → ℕ → Nature
-never class head = record { class = class; head = head; part = 0; Stands = λ said image listed nodes. ⊥ }
 
 -- the nature of a class's index, by its place and its kind; an index that no store serves never stands
 abbrev pub nature_of : ℕ → ℕ → IndexKind → Nature
