@@ -8,3 +8,5 @@ pub mod Parts
 pub mod IndexSteps
 pub mod IndexPuts
 pub mod IndexLoops
+pub mod Staying
+pub mod VersionPuts
