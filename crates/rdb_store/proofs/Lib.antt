@@ -10,3 +10,5 @@ pub mod IndexPuts
 pub mod IndexLoops
 pub mod Staying
 pub mod VersionPuts
+pub mod GivingBack
+pub mod Ends
