@@ -12,3 +12,4 @@ pub mod Staying
 pub mod VersionPuts
 pub mod GivingBack
 pub mod Ends
+pub mod Linking
