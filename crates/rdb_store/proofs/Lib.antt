@@ -13,3 +13,4 @@ pub mod VersionPuts
 pub mod GivingBack
 pub mod Ends
 pub mod Linking
+pub mod LinkSteps
