@@ -14,3 +14,5 @@ pub mod GivingBack
 pub mod Ends
 pub mod Linking
 pub mod LinkSteps
+pub mod Unlinking
+pub mod UnlinkSteps
