@@ -16,3 +16,4 @@ pub mod Linking
 pub mod LinkSteps
 pub mod Unlinking
 pub mod UnlinkSteps
+pub mod Unlinked

@@ -101,6 +101,18 @@ module _ (image : Image) (class : ℕ) (cells : List ℕ) (objects : List Object
         )
   ]
 
+  pub left_at : (u : Version) (k : ℕ) → Contains (chain_of objects k) u → u.header ≢ v.header → Contains (chain_of (with_chain objects id (newer ++ older)) k) u
+  left_at u k has differ = elim (same_or_other id k) [
+    | inl is ↦
+        let within = subst (λ (vs : List Version). Contains vs u) split (subst (λ (m : ℕ). Contains (chain_of objects m) u) (sym is) has) in
+        subst (λ (m : ℕ). Contains (chain_of (with_chain objects id (newer ++ older)) m) u) is
+        (subst (λ (vs : List Version). Contains vs u) (sym chain_left) (elim (Contains-append_cases newer (v ∷ older) u within) [
+          | inl front ↦ Contains-append_left newer older u front
+          | inr back ↦ Contains-append_right newer older u (in_back u back differ)
+        ]))
+    | inr other ↦ subst (λ (vs : List Version). Contains vs u) (sym (chain_other objects id k (newer ++ older) other)) has
+  ]
+
   pub left_there : (u : Version) → HasVersion objects u → u.header ≢ v.header → HasVersion (with_chain objects id (newer ++ older)) u
   left_there u has differ = elim (same_or_other id has.id) [
     | inl is ↦
