@@ -17,3 +17,4 @@ pub mod LinkSteps
 pub mod Unlinking
 pub mod UnlinkSteps
 pub mod Unlinked
+pub mod Relinking

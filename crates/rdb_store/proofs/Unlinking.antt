@@ -1,5 +1,5 @@
 -- What a chain with one version less changes.
-use Rattle.std.proofs.Common.{◌≡◌, ◌≢◌, ◌<◌, ◌⊎◌, ℕ, zero, suc, Bool, true, List, [], ◌∷◌, ◌++◌, map, Option, Some, IsSome, nat_eq, inl, inr, refl, sym, ap, subst, ◌∙◌, arith}
+use Rattle.std.proofs.Common.{◌≡◌, ◌≢◌, ◌<◌, ◌⊎◌, ℕ, zero, suc, Bool, true, false, List, [], ◌∷◌, ◌++◌, map, Option, Some, IsSome, nat_eq, inl, inr, refl, sym, ap, subst, ◌∙◌, arith}
 use Rattle.std.proofs.lemmas.Bool.Decides.{nat_tests}
 use Rattle.std.proofs.Permutation.{which}
 use Rattle.std.proofs.lemmas.List.Elements.{Contains-append_left, Contains-append_right, Contains-append_cases}
@@ -46,10 +46,10 @@ ref_in (w ∷ ws) v (zero, below, is) = subst (λ (u : Version). Contains (refs_
 ref_in (w ∷ ws) v (suc k, below, is) = later_in (ref_of w) (ref_of v) (refs_of ws) (ref_in ws v (k, omega arith, is))
 
 module _ (image : Image) (class : ℕ) (cells : List ℕ) (objects : List Object) (rises : Rises objects) (holds : HoldsObjects image class (all_linked objects) cells) (id : ℕ) (newer older : List Version) (v : Version) (split : chain_of objects id ≡ newer ++ v ∷ older) where
-  refs_split : versions_of (all_linked objects) id ≡ refs_of newer ++ ref_of v ∷ refs_of older
+  pub refs_split : versions_of (all_linked objects) id ≡ refs_of newer ++ ref_of v ∷ refs_of older
   refs_split = linked_versions objects id ∙ ap refs_of split ∙ refs_append newer (v ∷ older)
 
-  once : AreOnce (map (λ r. r.number) (refs_of newer ++ ref_of v ∷ refs_of older))
+  pub once : AreOnce (map (λ r. r.number) (refs_of newer ++ ref_of v ∷ refs_of older))
   once = subst (λ (rs : List CellRef). AreOnce (map (λ r. r.number) rs)) refs_split (chain_once image id (versions_of (all_linked objects) id) (are_versions image class (all_linked objects) cells holds id))
 
   pub not_newer : ¬ IsAmong (map (λ r. r.number) (refs_of newer)) v.header
@@ -145,3 +145,13 @@ module _ (image : Image) (class : ℕ) (cells : List ℕ) (objects : List Object
         without_other (all_linked objects) id (ref_of v) k differ ∙ linked_versions objects k
         ∙ ap refs_of (sym (chain_other objects id k (newer ++ older) other)) ∙ sym (linked_versions (with_chain objects id (newer ++ older)) k)
   ]
+
+-- versions of two objects stand in two places
+pub headers_apart : (image : Image) (class : ℕ) (cells : List ℕ) (objects : List Object) → HoldsObjects image class (all_linked objects) cells → (id k : ℕ) (u x : Version) → nat_eq id k ≡ false → Contains (chain_of objects id) u → Contains (chain_of objects k) x → x.header ≢ u.header
+headers_apart image class cells objects holds id k u x other here there same =
+    let one : ref_of x ≡ ref_of u = ap (λ (n : ℕ). record { number = n }) same in
+    let ids : k ≡ id = of_one image class (all_linked objects) cells holds k id (ref_of u)
+        (subst (λ (rs : List CellRef). Contains rs (ref_of u)) (sym (linked_versions objects k)) (subst (λ (r : CellRef). Contains (refs_of (chain_of objects k)) r) one (ref_in (chain_of objects k) x there)))
+        (subst (λ (rs : List CellRef). Contains rs (ref_of u)) (sym (linked_versions objects id)) (ref_in (chain_of objects id) u here)) in
+    let equal : nat_eq id k ≡ true = grind (arith, nat_tests) in
+    (cc)
