@@ -18,3 +18,4 @@ pub mod Unlinking
 pub mod UnlinkSteps
 pub mod Unlinked
 pub mod Relinking
+pub mod Stamping
