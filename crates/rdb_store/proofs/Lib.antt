@@ -19,3 +19,4 @@ pub mod UnlinkSteps
 pub mod Unlinked
 pub mod Relinking
 pub mod Stamping
+pub mod LawfulClasses
