@@ -20,3 +20,5 @@ pub mod Unlinked
 pub mod Relinking
 pub mod Stamping
 pub mod LawfulClasses
+pub mod IndexesLeft
+pub mod TakingOut

@@ -8,6 +8,7 @@ pub mod Laws
 pub mod Chains
 pub mod Midway
 pub mod Indexed
+pub mod Taking
 pub mod Plans
 pub mod Lookups
 pub mod Kept

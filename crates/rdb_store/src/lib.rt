@@ -11,6 +11,7 @@ mod plans;
 mod store;
 #[cfg(test)]
 mod tests;
+mod unlisting;
 
 pub use class_index::ClassIndex;
 pub use class_store::{ClassStore, KeyedIndex};

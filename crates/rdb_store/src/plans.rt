@@ -1,10 +1,10 @@
-//! The steps of a plan on one class: a version is put, or one is taken out, with its object's slot and every index.
-use crate::class_store::ClassStore;
-use crate::keyed::{put_into, take_from};
+//! The steps of a plan by which a version comes into what a class holds: its cells, its object's chain, and every index.
+use crate::keyed::{Keyed, put_into};
 use rdb_base::identity::Stamp;
-use rdb_cells::{Cells, NONE, Overlay};
+use rdb_cells::{Cells, Index, Keys, NONE, Overlay};
+use rdb_objects::Objects;
 use rdb_pages::CellRef;
-use rdb_rows::{Label, give_back, id_in, is_tombstone, put_tombstone, put_version};
+use rdb_rows::{Label, put_tombstone, put_version};
 
 /// A version that is to be made.
 #[derive(Clone, Copy, Debug, PartialEq, Eq)]
@@ -20,51 +20,39 @@ pub struct NewVersion {
 }
 
 /// Returns what a version that is made says of itself: its object's newest version is the next older one.
-fn label_of<C: Cells>(class: &ClassStore, new: &NewVersion, cells: &C) -> Label {
+fn label_of<C: Cells>(objects: Objects, new: &NewVersion, cells: &C) -> Label {
     Label {
-        class: new.class,
+        class: objects.class,
         id: new.id,
         serial: new.serial,
         stamp: new.stamp,
-        older: class
-            .objects()
-            .newest_version(cells, new.id)
-            .unwrap_or(NONE),
+        older: objects.newest_version(cells, new.id).unwrap_or(NONE),
     }
 }
 
 /// Plans a version with a row, first in its object's chain and in every index.
-pub(crate) fn put_row<C: Cells>(
-    class: &ClassStore,
+pub(crate) fn put_row<I: Index, K: Keys, C: Cells>(
+    objects: Objects,
+    indexes: &[Keyed<I, K>],
     new: &NewVersion,
     bytes: &[u8],
     cells: &mut Overlay<C>,
 ) -> CellRef {
-    let label = label_of(class, new, &*cells);
+    let label = label_of(objects, new, &*cells);
     let version = put_version(cells, &label, bytes);
-    class.objects().add_version(cells, new.id, version);
-    put_into(class.indexes(), cells, version);
+    objects.add_version(cells, new.id, version);
+    put_into(indexes, cells, version);
     version
 }
 
 /// Plans a tombstone, first in its object's chain and in no index.
 pub(crate) fn put_death<C: Cells>(
-    class: &ClassStore,
+    objects: Objects,
     new: &NewVersion,
     cells: &mut Overlay<C>,
 ) -> CellRef {
-    let label = label_of(class, new, &*cells);
+    let label = label_of(objects, new, &*cells);
     let version = put_tombstone(cells, &label);
-    class.objects().add_version(cells, new.id, version);
+    objects.add_version(cells, new.id, version);
     version
-}
-
-/// Plans that a version goes: from the indexes, if it has a row, from its object's chain, and from its cells.
-pub(crate) fn take_out<C: Cells>(class: &ClassStore, cells: &mut Overlay<C>, version: CellRef) {
-    if !is_tombstone(&*cells, version) {
-        take_from(class.indexes(), cells, version);
-    }
-    let id = id_in(&*cells, version);
-    class.objects().remove_version(cells, id, version);
-    give_back(cells, version);
 }

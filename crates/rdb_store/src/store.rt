@@ -8,7 +8,8 @@ ghost use Rattle.rdb_cells.specs.Work.{work, HasLeft, TakesAtMost, TakesNone};
 ghost use Rattle.rdb_sight.specs.Versions.{chain_of};
 
 use crate::class_store::ClassStore;
-use crate::plans::{NewVersion, put_death, put_row, take_out};
+use crate::plans::{NewVersion, put_death, put_row};
+use crate::unlisting::take_out;
 use rdb_base::identity::Stamp;
 use rdb_base::limits::MAX_ROW;
 use rdb_base::list::{List, NoMemory};
@@ -96,9 +97,9 @@ impl Store {
         ensures below { (cells.new.cells ≡ cells.old.cells) × (cells.new.class ≡ cells.old.class) }
     {
         let class = self.class(new.class);
-        let version = put_row(class, new, bytes, cells);
+        let version = put_row(class.objects(), class.indexes(), new, bytes, cells);
         if let Some(replaced) = new.replaces {
-            take_out(class, cells, replaced);
+            take_out(class.objects(), class.indexes(), cells, replaced);
         }
         version
     }
@@ -124,9 +125,9 @@ impl Store {
         ensures below { (cells.new.cells ≡ cells.old.cells) × (cells.new.class ≡ cells.old.class) }
     {
         let class = self.class(new.class);
-        let version = put_death(class, new, cells);
+        let version = put_death(class.objects(), new, cells);
         if let Some(replaced) = new.replaces {
-            take_out(class, cells, replaced);
+            take_out(class.objects(), class.indexes(), cells, replaced);
         }
         version
     }
@@ -146,7 +147,8 @@ impl Store {
         ensures room { cells.new.plan.room ≡ cells.old.plan.room }
         ensures below { (cells.new.cells ≡ cells.old.cells) × (cells.new.class ≡ cells.old.class) }
     {
-        take_out(self.class(class), cells, version);
+        let kept = self.class(class);
+        take_out(kept.objects(), kept.indexes(), cells, version);
     }
 
     /// Returns the cell of a version's header with another stamp: where it is written over the header, the class holds the same

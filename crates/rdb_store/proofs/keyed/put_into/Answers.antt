@@ -34,8 +34,7 @@ put-requires-clause-free g c =
 
 pub loop-keyed-preserved : goal.loop-keyed-preserved
 loop-keyed-preserved g c =
-    let at = at_place c.args.indexes.now c.loop-keyed.keyed-index c.keyed-item.result c.loop-keyed-test.true c.keyed-item.is in
-    (
+    let at = at_place c.args.indexes.now c.loop-keyed.keyed-index c.keyed-item.result c.loop-keyed-test.true c.keyed-item.is in (
       goes_on g.I.Index.nature g.K.Keys.meaning c.args.indexes.now (work g.C.Cells c.args.cells.now) c.args.version
           (work g.C.Cells c.loop-keyed.cells) c.loop-keyed.keyed-index c.keyed-item.result at c.loop-keyed-test.true c.loop-keyed.invariant.0
           (work g.C.Cells c.put.new.cells)
