@@ -22,3 +22,4 @@ pub mod Stamping
 pub mod LawfulClasses
 pub mod IndexesLeft
 pub mod TakingOut
+pub mod PuttingIn
