@@ -18,7 +18,7 @@ to_mid class objects (OfIndex place) is = is
 
 from_mid : (class : ClassNature) (objects : List Object) (p : Part) → IsMidPart class objects NoneLoose p → IsPart class objects p
 from_mid class objects Slots is = tt
-from_mid class objects (OfVersion header) is = elim is [ | inl has ↦ has | inr none ↦ absurd none ]
+from_mid class objects (OfVersion header) is = elim is [ inl has ↦ has | inr none ↦ absurd none ]
 from_mid class objects (OfIndex place) is = is
 
 some_from : (class : ClassNature) (objects : List Object) (layout : Layout) (n : ℕ) → IsInSome (IsMidPart class objects NoneLoose) layout n → IsInPart class objects layout n
@@ -45,7 +45,7 @@ midway_from class image class_of objects layout Such same holds = record {
     heads = holds.account.heads;
     apart = λ p q is other. holds.account.apart p q (from_mid class objects p is) (from_mid class objects q other);
     paged = λ n some. holds.account.paged n (some_from class objects layout n some);
-    rest = λ n page of. elim (holds.account.rest n page of) [ | inl zero ↦ inl zero | inr some ↦ inr (some_to class objects layout n some) ];
+    rest = λ n page of. elim (holds.account.rest n page of) [ inl zero ↦ inl zero | inr some ↦ inr (some_to class objects layout n some) ];
   };
 }
 
@@ -66,6 +66,6 @@ holds_from class image class_of objects layout Such same mid = record {
     heads = mid.account.heads;
     apart = λ p q is other. mid.account.apart p q (to_mid class objects p is) (to_mid class objects q other);
     paged = λ n some. mid.account.paged n (some_to class objects layout n some);
-    rest = λ n page of. elim (mid.account.rest n page of) [ | inl zero ↦ inl zero | inr some ↦ inr (some_from class objects layout n some) ];
+    rest = λ n page of. elim (mid.account.rest n page of) [ inl zero ↦ inl zero | inr some ↦ inr (some_from class objects layout n some) ];
   };
 }

@@ -49,13 +49,13 @@ module _ (class : ClassNature) (lawful : AreLawful class) (w after : Work) (of_c
   given_back = record {
     ascending = mid.ascending;
     slots = slots_after class lawful (reading w) (reading after) w.class_of objects (λ n. n ≡ at) Such layout mid versions_stay
-        (λ n within. elim within [ | inl is ↦ head_stays n (inl (sym is)) | inr slot ↦ part_stays Slots (λ e. (cc)) tt n slot ]);
+        (λ n within. elim within [ inl is ↦ head_stays n (inl (sym is)) | inr slot ↦ part_stays Slots (λ e. (cc)) tt n slot ]);
     chains = λ id. laid_again class (reading after) layout (with_part layout (OfVersion at) []) id (chain_of objects id)
         (λ u within. with_other layout.of_version at [] u.header (other_header u.header (record { version = u; has = record { id = id; within = within }; there = refl })))
         (chains_after class lawful (reading w) (reading after) w.class_of objects (λ n. n ≡ at) Such layout mid versions_stay id);
     loose = λ header none. absurd none;
     indexes = λ place within. lists_after class lawful (reading w) (reading after) w.class_of objects (λ n. n ≡ at) Such layout mid versions_stay place within (rows place)
-        (λ n among. elim among [ | inl is ↦ head_stays n (inr (place, within, sym is)) | inr node ↦ part_stays (OfIndex place) (λ e. (cc)) within n node ]);
+        (λ n among. elim among [ inl is ↦ head_stays n (inr (place, within, sym is)) | inr node ↦ part_stays (OfIndex place) (λ e. (cc)) within n node ]);
     serials = mid.serials;
     account = accounts_now class (OfVersion at) (IsMidPart class objects (λ n. n ≡ at)) (IsMidPart class objects NoneLoose) layout w after []
         (record {
@@ -76,9 +76,10 @@ module _ (class : ClassNature) (lawful : AreLawful class) (w after : Work) (of_c
     where
       stay : (p : Part) → p ≢ OfVersion at → IsMidPart class objects (λ n. n ≡ at) p → IsMidPart class objects NoneLoose p
       stay Slots differ is = tt
-      stay (OfVersion header) differ is = elim is [ | inl has ↦ inl has | inr same ↦ absurd (differ (ap OfVersion same)) ]
+      stay (OfVersion header) differ is = elim is [ inl has ↦ inl has | inr same ↦ absurd (differ (ap OfVersion same)) ]
       stay (OfIndex place) differ is = is
+
       were : (p : Part) → p ≢ OfVersion at → IsMidPart class objects NoneLoose p → IsMidPart class objects (λ n. n ≡ at) p
       were Slots differ is = tt
-      were (OfVersion header) differ is = elim is [ | inl has ↦ inl has | inr none ↦ absurd none ]
+      were (OfVersion header) differ is = elim is [ inl has ↦ inl has | inr none ↦ absurd none ]
       were (OfIndex place) differ is = is

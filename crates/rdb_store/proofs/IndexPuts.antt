@@ -36,11 +36,10 @@ module _ (class : ClassNature) (lawful : AreLawful class) (w : Work) (objects : 
       let v = has.version in
       let keyed = class.at place in
       let stored = version_at class lawful (reading w) w.class_of objects Loose Such layout mid v has.has in
-      let row = some_is v.row has.row in
-      (
+      let row = some_is v.row has.row in (
         record { key = keyed.key_in row.0; id = has.has.id; serial = v.serial },
         subst (λ (m : ℕ). keyed.keys.version_of (reading w) m ≡ Some (record { key = keyed.key_in row.0; id = has.has.id; serial = v.serial })) has.there
-        (said_of class keyed (lawful.each place below) (reading w) has.has.id v stored.0 (layout.of_version v.header) stored.1 row.0 row.1),
+            (said_of class keyed (lawful.each place below) (reading w) has.has.id v stored.0 (layout.of_version v.header) stored.1 row.0 row.1),
         refl,
       )
 
@@ -88,11 +87,11 @@ module _ (class : ClassNature) (lawful : AreLawful class) (w : Work) (objects : 
       let said = said_at class lawful w objects Loose (BeforePut objects version.number place) layout mid place below version.number has in
       record {
         keyed = subst IsSome (sym said.1) refl;
-        itself = λ within. elim ((old.exactly version).0 within).1 [ | inl less ↦ absurd (omega arith) | inr differ ↦ differ refl ];
+        itself = λ within. elim ((old.exactly version).0 within).1 [ inl less ↦ absurd (omega arith) | inr differ ↦ differ refl ];
         otherwise = λ r within twins.
             let such = (old.exactly r).0 within in
             let same = twins_are_one class lawful w objects Loose (BeforePut objects version.number place) layout mid place below version r has such.0 twins in
-            elim such.1 [ | inl less ↦ absurd (omega arith) | inr differ ↦ differ (sym same) ];
+            elim such.1 [ inl less ↦ absurd (omega arith) | inr differ ↦ differ (sym same) ];
       }
 
   pub lacks : LacksVersion (class.at place).index (class.at place).keys (reading w) version
@@ -129,8 +128,8 @@ module _ (class : ClassNature) (lawful : AreLawful class) (w : Work) (objects : 
       exactly = λ r. (listed_now r, now_listed r);
       rows = λ other n such. such.0;
       others = λ other differ n. (
-        λ such. (such.0, elim such.1 [ | inl less ↦ inl (omega arith) | inr apart ↦ inr apart ]),
-        λ such. (such.0, elim such.1 [ | inl less ↦ inl (below_again other place differ less) | inr apart ↦ inr apart ]),
+        λ such. (such.0, elim such.1 [ inl less ↦ inl (omega arith) | inr apart ↦ inr apart ]),
+        λ such. (such.0, elim such.1 [ inl less ↦ inl (below_again other place differ less) | inr apart ↦ inr apart ]),
       );
     }
 
@@ -169,7 +168,7 @@ module _ (class : ClassNature) (lawful : AreLawful class) (w : Work) (objects : 
     now_left r such =
         let was = ((mid.indexes place below).exactly r).1 (such.0, inl (omega arith)) in
         elim (contains_either version taken_now.0.listed r (Contains-permutation (mid.indexes place below).listed (version ∷ taken_now.0.listed) r (IsPermutation-sym _ _ taken_now.1) was)) [
-          | inl same ↦ absurd (elim such.1 [ | inl less ↦ absurd (omega arith) | inr differ ↦ differ (ap (λ (q : CellRef). q.number) (sym same)) ])
+          | inl same ↦ absurd (elim such.1 [ inl less ↦ absurd (omega arith) | inr differ ↦ differ (ap (λ (q : CellRef). q.number) (sym same)) ])
           | inr left ↦ left
         ]
 
@@ -183,8 +182,8 @@ module _ (class : ClassNature) (lawful : AreLawful class) (w : Work) (objects : 
       exactly = λ r. (left_now r, now_left r);
       rows = λ other n such. such.0;
       others = λ other differ n. (
-        λ such. (such.0, elim such.1 [ | inl less ↦ inl (above_again other place differ less) | inr apart ↦ inr apart ]),
-        λ such. (such.0, elim such.1 [ | inl less ↦ inl (omega arith) | inr apart ↦ inr apart ]),
+        λ such. (such.0, elim such.1 [ inl less ↦ inl (above_again other place differ less) | inr apart ↦ inr apart ]),
+        λ such. (such.0, elim such.1 [ inl less ↦ inl (omega arith) | inr apart ↦ inr apart ]),
       );
     }
 

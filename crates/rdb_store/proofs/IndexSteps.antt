@@ -209,7 +209,7 @@ module _ (class : ClassNature) (lawful : AreLawful class) (place : ℕ) (within_
           filled = filled;
           stay = λ p differ is. is;
           were = λ p differ is. is;
-          come = λ n within. elim (step.now.account.come n within) [ | inl was ↦ inl (within_class, was) | inr left ↦ inr left ];
+          come = λ n within. elim (step.now.account.come n within) [ inl was ↦ inl (within_class, was) | inr left ↦ inr left ];
           gone = λ is n within. step.now.account.gone n within;
           kept = step.now.account.filled;
           is_now = λ n within. within_class;

@@ -60,8 +60,11 @@ module _ {I K : Type 0} (nature : I → Nature) (meaning : K → Meaning) (index
     of_class = held.of_class;
     objects = held.objects;
     has = record { version = held.version; has = held.has; there = held.there; row = row };
-    listed = (held.holds.0, midway_from (class_over nature meaning indexes held.of) (reading before) before.class_of held.objects held.holds.0 (AfterTake held.objects header 0)
-        (λ place n below. (λ has. (has, inl (omega arith)), λ such. such.0)) held.holds.1);
+    listed = (
+      held.holds.0,
+      midway_from (class_over nature meaning indexes held.of) (reading before) before.class_of held.objects held.holds.0 (AfterTake held.objects header 0)
+          (λ place n below. (λ has. (has, inl (omega arith)), λ such. such.0)) held.holds.1,
+    );
   }
 
   pub unlists_row : (after : Work) → ((of : Declared) (objects : List Object) (v : Version) → HasVersion objects v → v.header ≡ header → HoldsNow (class_over nature meaning indexes of) before objects → IsSome v.row) → TakesFromAll nature meaning indexes before after header (length indexes) → Unlists nature meaning indexes before after header
@@ -69,17 +72,21 @@ module _ {I K : Type 0} (nature : I → Nature) (meaning : K → Meaning) (index
       let class = class_over nature meaning indexes of in
       let row = alive of objects v has there holds in
       let start = midway_from class (reading before) before.class_of objects holds.0 (AfterTake objects header 0)
-          (λ place n below. (λ has. (has, inl (omega arith)), λ such. such.0)) holds.1 in
-      let taken = takes of lawful of_class objects (record { version = v; has = has; there = there; row = row }) (holds.0, start) in
-      (taken.0, list_same class (reading after) after.class_of objects NoneLoose (AfterTake objects header (length indexes)) (λ place n. HasRowAt objects n × (n ≢ header)) taken.0
-          (λ place n below. (λ such. (such.0, elim such.1 [ | inl over ↦ absurd (omega arith) | inr differ ↦ differ ]), λ such. (such.0, inr such.1))) taken.1)
+      (λ place n below. (λ has. (has, inl (omega arith)), λ such. such.0)) holds.1 in
+      let taken = takes of lawful of_class objects (record { version = v; has = has; there = there; row = row }) (holds.0, start) in (
+        taken.0,
+        list_same class (reading after) after.class_of objects NoneLoose (AfterTake objects header (length indexes)) (λ place n. HasRowAt objects n × (n ≢ header)) taken.0
+            (λ place n below. (λ such. (such.0, elim such.1 [ inl over ↦ absurd (omega arith) | inr differ ↦ differ ]), λ such. (such.0, inr such.1))) taken.1,
+      )
 
   -- a tombstone is in none
   pub unlists_none : ((of : Declared) (objects : List Object) (v : Version) → HasVersion objects v → v.header ≡ header → HoldsNow (class_over nature meaning indexes of) before objects → ¬ IsSome v.row) → Unlists nature meaning indexes before before header
   unlists_none dead of lawful of_class objects v has there holds =
-      let class = class_over nature meaning indexes of in
-      (holds.0, midway_from class (reading before) before.class_of objects holds.0 (λ place n. HasRowAt objects n × (n ≢ header))
-          (λ place n below. (λ row_at. (row_at, λ e. dead of objects row_at.version row_at.has (row_at.there ∙ e) holds row_at.row), λ such. such.0)) holds.1)
+      let class = class_over nature meaning indexes of in (
+        holds.0,
+        midway_from class (reading before) before.class_of objects holds.0 (λ place n. HasRowAt objects n × (n ≢ header))
+            (λ place n below. (λ row_at. (row_at, λ e. dead of objects row_at.version row_at.has (row_at.there ∙ e) holds row_at.row), λ such. such.0)) holds.1,
+      )
 
   -- what is read of the header says whether it has a row
   pub alive_by : (tombstone : Bool) → ((x : StoredVersion) (cells : List ℕ) → HoldsVersion (reading before) header x cells → tombstone ≡ is_tombstone x.row) → tombstone ≡ false → (of : Declared) (objects : List Object) (v : Version) → HasVersion objects v → v.header ≡ header → HoldsNow (class_over nature meaning indexes of) before objects → IsSome v.row

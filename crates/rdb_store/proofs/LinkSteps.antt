@@ -111,7 +111,7 @@ module _ (class : ClassNature) (lawful : AreLawful class) (before after : Work) 
     loose = λ header none. absurd none;
     indexes = λ place within.
         let old = lists_after class lawful (reading before) (reading after) before.class_of objects (λ n. n ≡ new.header) (λ place n. HasRowAt objects n) layout links.mid versions_stay place within (λ n has. has)
-            (λ n among. elim among [ | inl is ↦ head_stays place within n (sym is) | inr node ↦ part_stays (OfIndex place) (λ e. (cc)) within n node ]) in
+        (λ n among. elim among [ inl is ↦ head_stays place within n (sym is) | inr node ↦ part_stays (OfIndex place) (λ e. (cc)) within n node ]) in
         record {
           listed = old.listed;
           lists = old.lists;
@@ -125,7 +125,7 @@ module _ (class : ClassNature) (lawful : AreLawful class) (before after : Work) 
           filled = filled;
           stay = stay;
           were = were;
-          come = λ n within. elim (anew.1.account.come n within) [ | inl was ↦ inl (tt, was) | inr left ↦ inr left ];
+          come = λ n within. elim (anew.1.account.come n within) [ inl was ↦ inl (tt, was) | inr left ↦ inr left ];
           gone = λ is n within. anew.1.account.gone n within;
           kept = anew.1.account.filled;
           is_now = λ n within. tt;
@@ -136,7 +136,8 @@ module _ (class : ClassNature) (lawful : AreLawful class) (before after : Work) 
       stay Slots differ is = absurd (differ refl)
       stay (OfVersion header) differ is = inl (header_there objects rises id new header is)
       stay (OfIndex place) differ is = is
+
       were : (p : Part) → p ≢ Slots → IsMidPart class (with_chain objects id (new ∷ chain_of objects id)) NoneLoose p → IsMidPart class objects (λ n. n ≡ new.header) p
       were Slots differ is = absurd (differ refl)
-      were (OfVersion header) differ is = elim is [ | inl has ↦ header_was objects rises id new header has | inr none ↦ absurd none ]
+      were (OfVersion header) differ is = elim is [ inl has ↦ header_was objects rises id new header has | inr none ↦ absurd none ]
       were (OfIndex place) differ is = is

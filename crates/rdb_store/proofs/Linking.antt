@@ -63,7 +63,7 @@ in_any_order image class xs ys cells holds same once have = record {
   versions = holds.versions;
   objects_are = record {
     told = λ s one. sym (same s.id) ∙ holds.objects_are.told s one;
-    slotted = λ id. elim (holds.objects_are.slotted id) [ | inl none ↦ inl (sym (same id) ∙ none) | inr slot ↦ inr slot ];
+    slotted = λ id. elim (holds.objects_are.slotted id) [ inl none ↦ inl (sym (same id) ∙ none) | inr slot ↦ inr slot ];
     once = once;
     have = have;
   };

@@ -97,5 +97,5 @@ holds_one class image class_of objects others first second =
     same_objects objects others (rises_from objects first.1.ascending) (rises_from others second.1.ascending)
     first.1.slots.objects_are.have second.1.slots.objects_are.have
     (λ id. same_chain class image first.0 second.0 id (chain_of objects id) (chain_of others id)
-        (sym (linked_versions objects id) ∙ same_versions image class.number (all_linked objects) (all_linked others) first.0.slots second.0.slots first.1.slots second.1.slots id ∙ linked_versions others id)
-        (first.1.chains id) (second.1.chains id))
+    (sym (linked_versions objects id) ∙ same_versions image class.number (all_linked objects) (all_linked others) first.0.slots second.0.slots first.1.slots second.1.slots id ∙ linked_versions others id)
+    (first.1.chains id) (second.1.chains id))

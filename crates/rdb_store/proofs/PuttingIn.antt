@@ -52,15 +52,18 @@ module _ {I K : Type 0} (nature : I → Nature) (meaning : K → Meaning) (index
       λ has. (row_there objects (rises_from objects holds.1.ascending) id made n has, inr (λ e. unknown (record { version = has.version; has = has.has; there = has.there ∙ e }))),
       λ such. elim (row_was objects (rises_from objects holds.1.ascending) id made n such.0) [
         | inl old ↦ old
-        | inr new ↦ absurd (elim such.1 [ | inl less ↦ absurd (omega arith) | inr differ ↦ differ new.0 ])
+        | inr new ↦ absurd (elim such.1 [ inl less ↦ absurd (omega arith) | inr differ ↦ differ new.0 ])
       ],
     );
   }
 
   pub linked_mid : (layout : Layout) × IsMidway (class_over nature meaning indexes of) (reading linked) linked.class_of (with_chain objects id (made ∷ chain_of objects id)) NoneLoose
       (BeforePut (with_chain objects id (made ∷ chain_of objects id)) made.header 0) layout
-  linked_mid = (_, linked_step (class_over nature meaning indexes of) lawful put linked objects id made (with_part holds.0 (OfVersion made.header) (made.header ∷ puts.row_cells))
-      (BeforePut (with_chain objects id (made ∷ chain_of objects id)) made.header 0) links)
+  linked_mid = (
+    _,
+    linked_step (class_over nature meaning indexes of) lawful put linked objects id made (with_part holds.0 (OfVersion made.header) (made.header ∷ puts.row_cells))
+        (BeforePut (with_chain objects id (made ∷ chain_of objects id)) made.header 0) links,
+  )
 
   row_at : HasRowAt (with_chain objects id (made ∷ chain_of objects id)) made.header
   row_at = record { version = made; has = new_there objects (rises_from objects holds.1.ascending) id made; there = refl; row = subst (λ (o : Option (List Value)). IsSome o) (sym has_row) refl }
@@ -79,6 +82,8 @@ module _ {I K : Type 0} (nature : I → Nature) (meaning : K → Meaning) (index
   -- all of them list it
   pub put_in : (after : Work) → PutsInAll nature meaning indexes linked after made.header (length indexes) → HoldsNow (class_over nature meaning indexes of) after (with_chain objects id (made ∷ chain_of objects id))
   put_in after in_all =
-      let done = in_all of lawful (adds.goes_on.class ∙ put_class) (with_chain objects id (made ∷ chain_of objects id)) row_at linked_mid in
-      (done.0, holds_from (class_over nature meaning indexes of) (reading after) after.class_of (with_chain objects id (made ∷ chain_of objects id)) done.0
-      (BeforePut (with_chain objects id (made ∷ chain_of objects id)) made.header (length indexes)) (λ place n below. (λ has. (has, inl below), λ such. such.0)) done.1)
+      let done = in_all of lawful (adds.goes_on.class ∙ put_class) (with_chain objects id (made ∷ chain_of objects id)) row_at linked_mid in (
+        done.0,
+        holds_from (class_over nature meaning indexes of) (reading after) after.class_of (with_chain objects id (made ∷ chain_of objects id)) done.0
+            (BeforePut (with_chain objects id (made ∷ chain_of objects id)) made.header (length indexes)) (λ place n below. (λ has. (has, inl below), λ such. such.0)) done.1,
+      )

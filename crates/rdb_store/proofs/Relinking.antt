@@ -136,9 +136,9 @@ module _ (class : ClassNature) (lawful : AreLawful class) (before after : Work) 
     left_after : AreStored class (reading after) layout id (newer ++ older)
     left_after =
         let front = stored_front class (reading before) (reading after) layout id last.0 (last.1 ∷ (v ∷ older)) (last.1 ∷ older) refl
-            (λ u within. same_but id u (subst (λ (vs : List Version). Contains vs u) (sym split_at) (Contains-append_left last.0 (last.1 ∷ (v ∷ older)) u within))
-                (λ e. not_before (subst (IsAmong (map (λ r. r.number) (refs_of last.0))) e (header_among last.0 u within))))
-            before_whole (last_after, older_after) in
+        (λ u within. same_but id u (subst (λ (vs : List Version). Contains vs u) (sym split_at) (Contains-append_left last.0 (last.1 ∷ (v ∷ older)) u within))
+        (λ e. not_before (subst (IsAmong (map (λ r. r.number) (refs_of last.0))) e (header_among last.0 u within))))
+        before_whole (last_after, older_after) in
         subst (AreStored class (reading after) layout id) (sym (append_assoc last.0 (last.1 ∷ []) older) ∙ ap (λ (ns : List Version). ns ++ older) (sym last.2)) front
 
     header_chains : (k : ℕ) → AreStored class (reading after) layout k (chain_of (with_chain objects id (newer ++ older)) k)

@@ -132,7 +132,7 @@ module _ (class : ClassNature) (lawful : AreLawful class) (before after : Image)
         let within = subst (λ (vs : List Version). Contains vs u) chain_here (subst (λ (k : ℕ). Contains (chain_of (with_stamp objects id newer v older stamp) k) u) (sym is) has.within) in
         elim (Contains-append_cases newer (record v { stamp = stamp } ∷ older) u within) [
           | inl front ↦ inl (record { id = id; within = front_in u front })
-          | inr back ↦ elim (behind u back) [ | inl same ↦ inr same | inr old ↦ inl (record { id = id; within = back_in u old }) ]
+          | inr back ↦ elim (behind u back) [ inl same ↦ inr same | inr old ↦ inl (record { id = id; within = back_in u old }) ]
         ]
     | inr other ↦ inl (record { id = has.id; within = subst (λ (vs : List Version). Contains vs u) (chain_there has.id other) has.within })
   ]
@@ -151,7 +151,7 @@ module _ (class : ClassNature) (lawful : AreLawful class) (before after : Image)
         let at_id : Contains (newer ++ record v { stamp = stamp } ∷ older) u → HasVersion (with_stamp objects id newer v older stamp) u = λ there. record { id = id; within = subst (λ (vs : List Version). Contains vs u) (sym chain_here) there } in
         elim (Contains-append_cases newer (v ∷ older) u within) [
           | inl front ↦ inl (at_id (Contains-append_left newer (record v { stamp = stamp } ∷ older) u front))
-          | inr back ↦ elim (middle u back) [ | inl same ↦ inr same | inr old ↦ inl (at_id (Contains-append_right newer (record v { stamp = stamp } ∷ older) u (later_in (record v { stamp = stamp }) u older old))) ]
+          | inr back ↦ elim (middle u back) [ inl same ↦ inr same | inr old ↦ inl (at_id (Contains-append_right newer (record v { stamp = stamp } ∷ older) u (later_in (record v { stamp = stamp }) u older old))) ]
         ]
     | inr other ↦ inl (record { id = has.id; within = subst (λ (vs : List Version). Contains vs u) (sym (chain_there has.id other)) has.within })
   ]
@@ -197,7 +197,7 @@ module _ (class : ClassNature) (lawful : AreLawful class) (before after : Image)
   either_one k u within = elim (same_or_other id k) [
     | inl is ↦ elim (Contains-append_cases newer (v ∷ older) u (subst (λ (vs : List Version). Contains vs u) split (subst (λ (m : ℕ). Contains (chain_of objects m) u) (sym is) within))) [
       | inl front ↦ inl (front_differs u front)
-      | inr back ↦ elim (middle u back) [ | inl same ↦ inr same | inr old ↦ inl (back_differs u old) ]
+      | inr back ↦ elim (middle u back) [ inl same ↦ inr same | inr old ↦ inl (back_differs u old) ]
     ]
     | inr other ↦ inl (headers_apart before class.number layout.slots objects holds.slots id k v u other v_in within)
   ]
@@ -249,7 +249,7 @@ module _ (class : ClassNature) (lawful : AreLawful class) (before after : Image)
   slots_now : HoldsObjects after class.number (all_linked (with_stamp objects id newer v older stamp)) layout.slots
   slots_now = in_any_order after class.number (all_linked objects) (all_linked (with_stamp objects id newer v older stamp)) layout.slots
       (rests before after class.number (all_linked objects) layout.slots holds.slots
-      (λ n within. elim within [ | inl is ↦ head_same n (inl (sym is)) | inr slot ↦ part_same Slots tt (λ e. (cc)) n slot ]) link_now)
+      (λ n within. elim within [ inl is ↦ head_same n (inl (sym is)) | inr slot ↦ part_same Slots tt (λ e. (cc)) n slot ]) link_now)
       linked_same
       (ids_once (with_stamp objects id newer v older stamp) (rises_with objects id (newer ++ record v { stamp = stamp } ∷ older) rises))
       (have_chain objects id (newer ++ record v { stamp = stamp } ∷ older) holds.slots.objects_are.have)
@@ -273,7 +273,7 @@ module _ (class : ClassNature) (lawful : AreLawful class) (before after : Image)
   rest_now : (n : ℕ) → IsPageCell n → class_of n ≡ Some class.number → (after n ≡ Some zero_cell) ⊎ IsInPart class (with_stamp objects id newer v older stamp) layout n
   rest_now n page of = elim (which n v.header) [
     | inl same ↦ inr (in_part_now n (record { part = OfVersion v.header; is_part = v_part; within = subst (IsAmong (layout.of_version v.header)) (sym same) v_cell }))
-    | inr differ ↦ elim (holds.account.rest n page of) [ | inl free ↦ inl (stamps.elsewhere n differ ∙ free) | inr some ↦ inr (in_part_now n some) ]
+    | inr differ ↦ elim (holds.account.rest n page of) [ inl free ↦ inl (stamps.elsewhere n differ ∙ free) | inr some ↦ inr (in_part_now n some) ]
   ]
 
   pub stamped_holds : HoldsIn class after class_of (with_stamp objects id newer v older stamp) layout
@@ -288,7 +288,7 @@ module _ (class : ClassNature) (lawful : AreLawful class) (before after : Image)
           listed = old.listed;
           lists = (lawful.each place below).rests_on_nodes (says keyed.keys before) before old.listed (layout.of_index place) old.lists (says keyed.keys after) after
               (record { versions = λ r within. said_now place below r.number ((old.exactly r).0 within); hashes = λ key. refl })
-              (λ n among. elim among [ | inl is ↦ head_same n (inr (place, below, sym is)) | inr node ↦ part_same (OfIndex place) below (λ e. (cc)) n node ]);
+              (λ n among. elim among [ inl is ↦ head_same n (inr (place, below, sym is)) | inr node ↦ part_same (OfIndex place) below (λ e. (cc)) n node ]);
           exactly = λ r. (λ within. row_now r.number ((old.exactly r).0 within), λ has. (old.exactly r).1 (row_was r.number has));
         };
     serials = serials_now;

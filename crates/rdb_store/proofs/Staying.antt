@@ -25,7 +25,7 @@ among_or_not (m ∷ ms) n = elim (which m n) [
   | inl is ↦ inl (inl is)
   | inr differ ↦ elim (among_or_not ms n) [
     | inl within ↦ inl (inr within)
-    | inr without ↦ inr (λ among. elim among [ | inl is ↦ differ is | inr within ↦ without within ])
+    | inr without ↦ inr (λ among. elim among [ inl is ↦ differ is | inr within ↦ without within ])
   ]
 ]
 

@@ -78,15 +78,17 @@ module _ {I K : Type 0} (nature : I → Nature) (meaning : K → Meaning) (index
     module _ (out : Work) (id : ℕ) (is : id ≡ has.id) (same : of.number ≡ number) (removes : RemovesVersion number unlisted out id version) (newer older : List Version) (split : chain_of objects has.id ≡ newer ++ v ∷ older) where
       goes : (layout : Layout) × UnlinksVersion (class_over nature meaning indexes of) unlisted out objects has.id newer older v layout
       goes =
-          let mid = subst (λ (n : ℕ). IsUnlistedFrom (class_over nature meaning indexes of) unlisted objects n) (sym there) now in
-          (mid.0, record {
-            of_class = same_class ∙ of_class;
-            split = split;
-            mid = mid.1;
-            removes = subst (λ (k : ℕ). RemovesVersion of.number unlisted out k (ref_of v)) is
-                (subst (λ (r : CellRef). RemovesVersion of.number unlisted out id r) (sym (ref_is v version there))
-                (subst (λ (n : ℕ). RemovesVersion n unlisted out id version) (sym same) removes));
-          })
+          let mid = subst (λ (n : ℕ). IsUnlistedFrom (class_over nature meaning indexes of) unlisted objects n) (sym there) now in (
+            mid.0,
+            record {
+              of_class = same_class ∙ of_class;
+              split = split;
+              mid = mid.1;
+              removes = subst (λ (k : ℕ). RemovesVersion of.number unlisted out k (ref_of v)) is
+                  (subst (λ (r : CellRef). RemovesVersion of.number unlisted out id r) (sym (ref_is v version there))
+                  (subst (λ (n : ℕ). RemovesVersion n unlisted out id version) (sym same) removes));
+            },
+          )
 
       loose_now : (layout : Layout) × IsMidway (class_over nature meaning indexes of) (reading out) out.class_of (with_chain objects has.id (newer ++ older)) (λ n. n ≡ v.header) (λ place n. HasRowAt (with_chain objects has.id (newer ++ older)) n) layout
       loose_now = (_, unlinks (class_over nature meaning indexes of) lawful unlisted out objects has.id newer older v goes.0 goes.1)
@@ -107,9 +109,11 @@ module _ {I K : Type 0} (nature : I → Nature) (meaning : K → Meaning) (index
 
       pub dropped : (last : Work) → last.below ≡ out.below → last.class_of ≡ out.class_of → GivesBack out last version.number → HoldsNow (class_over nature meaning indexes of) last (with_chain objects has.id (newer ++ older))
       dropped last below classes gives =
-          let out_class = removes.goes_on.class ∙ same_class ∙ of_class in
-          (_, holds_from (class_over nature meaning indexes of) (reading last) last.class_of (with_chain objects has.id (newer ++ older)) _
-          (λ place n. HasRowAt (with_chain objects has.id (newer ++ older)) n) (λ place n within. (λ h. h, λ h. h))
-          (given_back (class_over nature meaning indexes of) lawful out last out_class below classes (with_chain objects has.id (newer ++ older))
-          (λ place n. HasRowAt (with_chain objects has.id (newer ++ older)) n) (λ place n h. h) loose_now.0 v.header loose_now.1 not_linked
-          (subst (GivesBack out last) (sym there) gives)))
+          let out_class = removes.goes_on.class ∙ same_class ∙ of_class in (
+            _,
+            holds_from (class_over nature meaning indexes of) (reading last) last.class_of (with_chain objects has.id (newer ++ older)) _
+                (λ place n. HasRowAt (with_chain objects has.id (newer ++ older)) n) (λ place n within. (λ h. h, λ h. h))
+                (given_back (class_over nature meaning indexes of) lawful out last out_class below classes (with_chain objects has.id (newer ++ older))
+                (λ place n. HasRowAt (with_chain objects has.id (newer ++ older)) n) (λ place n h. h) loose_now.0 v.header loose_now.1 not_linked
+                (subst (GivesBack out last) (sym there) gives)),
+          )

@@ -80,6 +80,7 @@ stored_front class before after layout id (v ∷ vs) xs ys newest same are ends 
     leads : (ws : List Version) → newest_of (refs_of (ws ++ xs)) ≡ newest_of (refs_of (ws ++ ys))
     leads [] = newest
     leads (w ∷ ws) = refl
+
     again : (ws : List Version) → HoldsVersion before v.header (as_stored class id v (ws ++ xs)) (layout.of_version v.header) → HoldsVersion after v.header (as_stored class id v (ws ++ ys)) (layout.of_version v.header)
     again ws holds =
         let P : CellRef → Type 0 = λ r. HoldsVersion after v.header (record { label = record { class = class.number; id = id; serial = v.serial; stamp = v.stamp; older = r }; row = (as_stored class id v xs).row }) (layout.of_version v.header) in

@@ -50,6 +50,7 @@ same_on_version a b same n v cells holds m within = go (subst (λ (ns : List ℕ
   where
     by_cell : (cell : Cell) → a m ≡ Some cell → IsOfKind cell kind.Row ⊎ IsOfKind cell kind.Version → b m ≡ a m
     by_cell cell here of = (same m cell of).0 here ∙ sym here
+
     go : IsAmong (n ∷ holds.row_cells) m → b m ≡ a m
     go (inl is) = by_cell _ (ap a (sym is) ∙ holds.header) (inr (add-mul-mod_self_left 2 256 v.label.older.number))
     go (inr row) =
@@ -161,7 +162,7 @@ module _ (class : ClassNature) (lawful : AreLawful class) (before after : Work) 
                   versions = λ r within. let such = (old.exactly r).0 within in said_still place below r.number such.0 such.1;
                   hashes = λ key. refl;
                 })
-                (λ n among. elim among [ | inl is ↦ head_stays place below n (sym is) | inr node ↦ node_stays place below n node ]);
+                (λ n among. elim among [ inl is ↦ head_stays place below n (sym is) | inr node ↦ node_stays place below n node ]);
             exactly = λ r. (λ within. row_left r.number ((old.exactly r).0 within), λ has. (old.exactly r).1 (row_was_left r.number has));
           };
       serials = serials_left (reading before) class.number layout.slots objects rises goes.mid.slots id newer older v goes.split goes.mid.serials;
@@ -172,7 +173,7 @@ module _ (class : ClassNature) (lawful : AreLawful class) (before after : Work) 
             filled = parts_filled class lawful (reading before) before.class_of objects NoneLoose (λ place n. HasRowAt objects n × (n ≢ v.header)) layout goes.mid;
             stay = stay;
             were = were;
-            come = λ n within. elim (less.1.account.come n within) [ | inl was ↦ inl (tt, was) | inr left ↦ inr left ];
+            come = λ n within. elim (less.1.account.come n within) [ inl was ↦ inl (tt, was) | inr left ↦ inr left ];
             gone = λ is n within. less.1.account.gone n within;
             kept = less.1.account.filled;
             is_now = λ n within. tt;
@@ -193,6 +194,7 @@ module _ (class : ClassNature) (lawful : AreLawful class) (before after : Work) 
           | inr none ↦ absurd none
         ]
         stay (OfIndex place) differ is = is
+
         were : (p : Part) → p ≢ Slots → IsMidPart class (with_chain objects id (newer ++ older)) (λ n. n ≡ v.header) p → IsMidPart class objects NoneLoose p
         were Slots differ is = absurd (differ refl)
         were (OfVersion header) differ is = elim is [

@@ -86,16 +86,15 @@ module _ (image : Image) (class : ℕ) (cells : List ℕ) (objects : List Object
         let within = subst (λ (vs : List Version). Contains vs u) chain_left (subst (λ (k : ℕ). Contains (chain_of (with_chain objects id (newer ++ older)) k) u) (sym is) has.within) in
         (record { id = id; within = subst (λ (vs : List Version). Contains vs u) (sym split) (left_within u within) }, left_differs u within)
     | inr other ↦
-        let within = subst (λ (vs : List Version). Contains vs u) (chain_other objects id has.id (newer ++ older) other) has.within in
-        (
+        let within = subst (λ (vs : List Version). Contains vs u) (chain_other objects id has.id (newer ++ older) other) has.within in (
           record { id = has.id; within = within },
           λ same.
               let there = ref_in (chain_of objects has.id) u within in
               let here = ref_in (chain_of objects id) v v_within in
               let one : ref_of u ≡ ref_of v = ap (λ (n : ℕ). record { number = n }) same in
               let ids : has.id ≡ id = of_one image class (all_linked objects) cells holds has.id id (ref_of v)
-                  (subst (λ (rs : List CellRef). Contains rs (ref_of v)) (sym (linked_versions objects has.id)) (subst (λ (r : CellRef). Contains (refs_of (chain_of objects has.id)) r) one there))
-                  (subst (λ (rs : List CellRef). Contains rs (ref_of v)) (sym (linked_versions objects id)) here) in
+              (subst (λ (rs : List CellRef). Contains rs (ref_of v)) (sym (linked_versions objects has.id)) (subst (λ (r : CellRef). Contains (refs_of (chain_of objects has.id)) r) one there))
+              (subst (λ (rs : List CellRef). Contains rs (ref_of v)) (sym (linked_versions objects id)) here) in
               let equal : nat_eq id has.id ≡ true = grind (arith, nat_tests) in
               (cc),
         )
@@ -151,7 +150,7 @@ pub headers_apart : (image : Image) (class : ℕ) (cells : List ℕ) (objects : 
 headers_apart image class cells objects holds id k u x other here there same =
     let one : ref_of x ≡ ref_of u = ap (λ (n : ℕ). record { number = n }) same in
     let ids : k ≡ id = of_one image class (all_linked objects) cells holds k id (ref_of u)
-        (subst (λ (rs : List CellRef). Contains rs (ref_of u)) (sym (linked_versions objects k)) (subst (λ (r : CellRef). Contains (refs_of (chain_of objects k)) r) one (ref_in (chain_of objects k) x there)))
-        (subst (λ (rs : List CellRef). Contains rs (ref_of u)) (sym (linked_versions objects id)) (ref_in (chain_of objects id) u here)) in
+    (subst (λ (rs : List CellRef). Contains rs (ref_of u)) (sym (linked_versions objects k)) (subst (λ (r : CellRef). Contains (refs_of (chain_of objects k)) r) one (ref_in (chain_of objects k) x there)))
+    (subst (λ (rs : List CellRef). Contains rs (ref_of u)) (sym (linked_versions objects id)) (ref_in (chain_of objects id) u here)) in
     let equal : nat_eq id k ≡ true = grind (arith, nat_tests) in
     (cc)

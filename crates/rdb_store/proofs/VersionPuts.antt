@@ -66,14 +66,14 @@ module _ (class : ClassNature) (lawful : AreLawful class) (w after : Work) (of_c
   put_loose = record {
     ascending = mid.ascending;
     slots = slots_after class lawful (reading w) (reading after) w.class_of objects NoneLoose Such layout mid versions_stay
-        (λ n within. elim within [ | inl is ↦ head_stays n (inl (sym is)) | inr slot ↦ part_stays Slots tt n slot ]);
+        (λ n within. elim within [ inl is ↦ head_stays n (inl (sym is)) | inr slot ↦ part_stays Slots tt n slot ]);
     chains = λ id. laid_again class (reading after) layout (with_part layout (OfVersion at) (at ∷ puts.row_cells)) id (chain_of objects id) (same_cells id)
         (chains_after class lawful (reading w) (reading after) w.class_of objects NoneLoose Such layout mid versions_stay id);
     loose = λ header is.
         let P : ℕ → Type 0 = λ n. (x : StoredVersion) × HoldsVersion (reading after) n x ((with_part layout (OfVersion at) (at ∷ puts.row_cells)).of_version n) in
         subst P (sym is) (v, subst (λ (ns : List ℕ). HoldsVersion (reading after) at v ns) (sym (with_here layout.of_version at (at ∷ puts.row_cells))) puts.holds);
     indexes = λ place within. lists_after class lawful (reading w) (reading after) w.class_of objects NoneLoose Such layout mid versions_stay place within (rows place)
-        (λ n among. elim among [ | inl is ↦ head_stays n (inr (place, within, sym is)) | inr node ↦ part_stays (OfIndex place) within n node ]);
+        (λ n among. elim among [ inl is ↦ head_stays n (inr (place, within, sym is)) | inr node ↦ part_stays (OfIndex place) within n node ]);
     serials = mid.serials;
     account = accounts_now class (OfVersion at) (IsMidPart class objects NoneLoose) (IsMidPart class objects (λ n. n ≡ at)) layout w after (at ∷ puts.row_cells)
         (record {
@@ -83,17 +83,18 @@ module _ (class : ClassNature) (lawful : AreLawful class) (w after : Work) (of_c
           stay = stay;
           were = were;
           come = λ n within. inr (puts.left n within);
-          gone = λ is n within. absurd (elim is [ | inl has ↦ new_header has | inr none ↦ none ]);
-          kept = λ n blank. elim (among_or_not (at ∷ puts.row_cells) n) [ | inl new ↦ inl new | inr apart ↦ inr (reads n apart) ];
+          gone = λ is n within. absurd (elim is [ inl has ↦ new_header has | inr none ↦ none ]);
+          kept = λ n blank. elim (among_or_not (at ∷ puts.row_cells) n) [ inl new ↦ inl new | inr apart ↦ inr (reads n apart) ];
           is_now = λ n within. inr refl;
         }) mid.account;
   }
     where
       stay : (p : Part) → p ≢ OfVersion at → IsMidPart class objects NoneLoose p → IsMidPart class objects (λ n. n ≡ at) p
       stay Slots differ is = tt
-      stay (OfVersion header) differ is = elim is [ | inl has ↦ inl has | inr none ↦ absurd none ]
+      stay (OfVersion header) differ is = elim is [ inl has ↦ inl has | inr none ↦ absurd none ]
       stay (OfIndex place) differ is = is
+
       were : (p : Part) → p ≢ OfVersion at → IsMidPart class objects (λ n. n ≡ at) p → IsMidPart class objects NoneLoose p
       were Slots differ is = tt
-      were (OfVersion header) differ is = elim is [ | inl has ↦ inl has | inr same ↦ absurd (differ (ap OfVersion same)) ]
+      were (OfVersion header) differ is = elim is [ inl has ↦ inl has | inr same ↦ absurd (differ (ap OfVersion same)) ]
       were (OfIndex place) differ is = is

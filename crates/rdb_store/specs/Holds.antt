@@ -38,7 +38,8 @@ pub record IsInPart (class : ClassNature) (objects : List Object) (layout : Layo
 
 -- The account of the class's cells: its heads are its own; no cell is one of two parts, each cell of a part stands in a page of the class,
 -- and what stands in its pages beside them is all zero.
-pub record IsAccount (class : ClassNature) (image : Image) (class_of : ℕ → Option ℕ) (objects : List Object) (layout : Layout) : Type 0 where
+pub record IsAccount (class : ClassNature) (image : Image) (class_of : ℕ → Option ℕ) (objects : List Object)
+    (layout : Layout) : Type 0 where
   pub heads : (n : ℕ) → IsHeadOf class n → class_of n ≡ Some class.number
   pub apart : (p q : Part) → IsPart class objects p → IsPart class objects q → p ≢ q → AreDisjoint (cells_in layout p) (cells_in layout q)
   pub paged : (n : ℕ) → IsInPart class objects layout n → IsPageCell n × (class_of n ≡ Some class.number)

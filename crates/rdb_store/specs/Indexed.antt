@@ -55,7 +55,8 @@ IsTakenUpTo class w objects version next =
     (layout : Layout) × IsMidway class (reading w) w.class_of objects NoneLoose (AfterTake objects version next) layout
 
 -- the class with the indexes, whose work it is, has a version with a row that no index lists yet
-pub record LacksInAll {I K : Type 0} (nature : I → Nature) (meaning : K → Meaning) (indexes : List (Keyed I K)) (w : Work) (version : ℕ) : Type 0 where
+pub record LacksInAll {I K : Type 0} (nature : I → Nature) (meaning : K → Meaning) (indexes : List (Keyed I K)) (w : Work)
+    (version : ℕ) : Type 0 where
   pub of : Declared
   pub lawful : AreLawful (class_over nature meaning indexes of)
   pub of_class : w.class ≡ of.number
@@ -65,12 +66,15 @@ pub record LacksInAll {I K : Type 0} (nature : I → Nature) (meaning : K → Me
 
 -- the version came to all of the indexes before a place
 abbrev pub PutsInAll : {I K : Type 0} → (I → Nature) → (K → Meaning) → List (Keyed I K) → Work → Work → ℕ → ℕ → Type 0
-PutsInAll nature meaning indexes before after version next = (of : Declared) → AreLawful (class_over nature meaning indexes of) → before.class ≡ of.number →
+PutsInAll nature meaning indexes before after version next =
+    (of : Declared) → AreLawful (class_over nature meaning indexes of) → before.class ≡ of.number →
     (objects : List Object) → HasRowAt objects version →
-    IsPutUpTo (class_over nature meaning indexes of) before objects version 0 → IsPutUpTo (class_over nature meaning indexes of) after objects version next
+    IsPutUpTo (class_over nature meaning indexes of) before objects version 0 →
+    IsPutUpTo (class_over nature meaning indexes of) after objects version next
 
 -- the class with the indexes, whose work it is, has a version with a row that every index lists
-pub record HasInAll {I K : Type 0} (nature : I → Nature) (meaning : K → Meaning) (indexes : List (Keyed I K)) (w : Work) (version : ℕ) : Type 0 where
+pub record HasInAll {I K : Type 0} (nature : I → Nature) (meaning : K → Meaning) (indexes : List (Keyed I K)) (w : Work)
+    (version : ℕ) : Type 0 where
   pub of : Declared
   pub lawful : AreLawful (class_over nature meaning indexes of)
   pub of_class : w.class ≡ of.number
@@ -80,6 +84,8 @@ pub record HasInAll {I K : Type 0} (nature : I → Nature) (meaning : K → Mean
 
 -- the version went from all of the indexes before a place
 abbrev pub TakesFromAll : {I K : Type 0} → (I → Nature) → (K → Meaning) → List (Keyed I K) → Work → Work → ℕ → ℕ → Type 0
-TakesFromAll nature meaning indexes before after version next = (of : Declared) → AreLawful (class_over nature meaning indexes of) → before.class ≡ of.number →
+TakesFromAll nature meaning indexes before after version next =
+    (of : Declared) → AreLawful (class_over nature meaning indexes of) → before.class ≡ of.number →
     (objects : List Object) → HasRowAt objects version →
-    IsTakenUpTo (class_over nature meaning indexes of) before objects version 0 → IsTakenUpTo (class_over nature meaning indexes of) after objects version next
+    IsTakenUpTo (class_over nature meaning indexes of) before objects version 0 →
+    IsTakenUpTo (class_over nature meaning indexes of) after objects version next

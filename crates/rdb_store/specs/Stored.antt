@@ -46,7 +46,8 @@ pub record IsStored (class : ClassNature) (image : Image) (id : ℕ) (v : Versio
 -- each version of an object's chain stands in its cells
 abbrev pub AreStored : ClassNature → Image → Layout → ℕ → List Version → Type 0
 AreStored class image layout id [] = Unit {0}
-AreStored class image layout id (v ∷ older) = IsStored class image id v older (layout.of_version v.header) × AreStored class image layout id older
+AreStored class image layout id (v ∷ older) =
+    IsStored class image id v older (layout.of_version v.header) × AreStored class image layout id older
 
 -- a version of one of the objects
 pub record HasVersion (objects : List Object) (v : Version) : Type 0 where

@@ -17,7 +17,8 @@ abbrev pub HoldsNow : ClassNature → Work → List Object → Type 0
 HoldsNow class w objects = Holds class (reading w) w.class_of objects
 
 -- the class with the indexes, whose work it is, holds objects, and one of their versions has this header
-pub record StandsHeld {I K : Type 0} (nature : I → Nature) (meaning : K → Meaning) (indexes : List (Keyed I K)) (w : Work) (header : ℕ) : Type 0 where
+pub record StandsHeld {I K : Type 0} (nature : I → Nature) (meaning : K → Meaning) (indexes : List (Keyed I K)) (w : Work)
+    (header : ℕ) : Type 0 where
   pub of : Declared
   pub lawful : AreLawful (class_over nature meaning indexes of)
   pub of_class : w.class ≡ of.number
@@ -34,12 +35,17 @@ IsUnlistedFrom class w objects header =
 
 -- whatever the class held, the version went from all of the indexes
 abbrev pub Unlists : {I K : Type 0} → (I → Nature) → (K → Meaning) → List (Keyed I K) → Work → Work → ℕ → Type 0
-Unlists nature meaning indexes before after header = (of : Declared) → AreLawful (class_over nature meaning indexes of) → before.class ≡ of.number →
+Unlists nature meaning indexes before after header =
+    (of : Declared) → AreLawful (class_over nature meaning indexes of) → before.class ≡ of.number →
     (objects : List Object) (v : Version) → HasVersion objects v → v.header ≡ header →
-    HoldsNow (class_over nature meaning indexes of) before objects → IsUnlistedFrom (class_over nature meaning indexes of) after objects header
+    HoldsNow (class_over nature meaning indexes of) before objects →
+    IsUnlistedFrom (class_over nature meaning indexes of) after objects header
 
 -- whatever the class held, the version went from its object's chain, and the object with its last version
 abbrev pub DropsHeld : {I K : Type 0} → (I → Nature) → (K → Meaning) → List (Keyed I K) → Work → Work → ℕ → Type 0
-DropsHeld nature meaning indexes before after header = (of : Declared) → AreLawful (class_over nature meaning indexes of) → before.class ≡ of.number →
-    (objects : List Object) (id : ℕ) (newer older : List Version) (v : Version) → chain_of objects id ≡ newer ++ v ∷ older → v.header ≡ header →
-    HoldsNow (class_over nature meaning indexes of) before objects → HoldsNow (class_over nature meaning indexes of) after (with_chain objects id (newer ++ older))
+DropsHeld nature meaning indexes before after header =
+    (of : Declared) → AreLawful (class_over nature meaning indexes of) → before.class ≡ of.number →
+    (objects : List Object) (id : ℕ) (newer older : List Version) (v : Version) →
+    chain_of objects id ≡ newer ++ v ∷ older → v.header ≡ header →
+    HoldsNow (class_over nature meaning indexes of) before objects →
+    HoldsNow (class_over nature meaning indexes of) after (with_chain objects id (newer ++ older))

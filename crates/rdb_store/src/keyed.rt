@@ -23,7 +23,8 @@ pub(crate) fn put_into<I: Index, K: Keys, C: Cells>(
     requires lacks { LacksInAll I.nature K.meaning indexes.now (work C.Cells cells.old) version.number }
     requires places { length cells.old.plan.pairs + 50 * length indexes.now ≤ cells.old.plan.room }
     requires free { HasLeft (work C.Cells cells.old) (parts_of I.nature indexes.now) }
-    ensures puts { PutsInAll I.nature K.meaning indexes.now (work C.Cells cells.old) (work C.Cells cells.new) version.number (length indexes.now) }
+    ensures puts { PutsInAll I.nature K.meaning indexes.now (work C.Cells cells.old) (work C.Cells cells.new)
+        version.number (length indexes.now) }
     ensures takes { TakesAtMost (parts_of I.nature indexes.now) (work C.Cells cells.old) (work C.Cells cells.new) }
     ensures places { length cells.new.plan.pairs ≤ length cells.old.plan.pairs + 50 * length indexes.now }
     ensures room { cells.new.plan.room ≡ cells.old.plan.room }
@@ -42,7 +43,8 @@ pub(crate) fn take_from<I: Index, K: Keys, C: Cells>(
 )
     requires has { HasInAll I.nature K.meaning indexes.now (work C.Cells cells.old) version.number }
     requires places { length cells.old.plan.pairs + 50 * length indexes.now ≤ cells.old.plan.room }
-    ensures takes { TakesFromAll I.nature K.meaning indexes.now (work C.Cells cells.old) (work C.Cells cells.new) version.number (length indexes.now) }
+    ensures takes { TakesFromAll I.nature K.meaning indexes.now (work C.Cells cells.old) (work C.Cells cells.new)
+        version.number (length indexes.now) }
     ensures takes_none { TakesNone (work C.Cells cells.old) (work C.Cells cells.new) }
     ensures places { length cells.new.plan.pairs ≤ length cells.old.plan.pairs + 50 * length indexes.now }
     ensures room { cells.new.plan.room ≡ cells.old.plan.room }
