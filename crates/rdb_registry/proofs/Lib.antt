@@ -1,0 +1,6 @@
+pub mod SlotLemmas
+pub mod KeptLemmas
+pub mod OpeningLemmas
+pub mod SpentLemmas
+pub mod OwnLemmas
+pub mod RecordLaws

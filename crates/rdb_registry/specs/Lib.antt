@@ -1,0 +1,7 @@
+pub mod OwnWrites
+pub mod Hands
+pub mod Seats
+pub mod Registry
+pub mod Kept
+pub mod SlotLending
+pub mod Lending
