@@ -127,7 +127,7 @@ wrote_parts d class id = parts d.0 d.1
     parts (op.Count c) told = none (c == class)
 
 -- an operation that gets its reply leaves an object with the row that it wrote, or as it was
-left_by : (schema : Schema) (db : Database) (d : Op × Reply) (class id : ℕ) → class < length db → same_reply (answer schema db d.0).0 d.1 ≡ true
+pub left_by : (schema : Schema) (db : Database) (d : Op × Reply) (class id : ℕ) → class < length db → same_reply (answer schema db d.0).0 d.1 ≡ true
     → row_of (objects_of (answer schema db d.0).1 class) id ≡ cond (wrote d (class, id)) (row_left d.0) (row_of (objects_of db class) id)
 left_by schema db d class id within same =
     ap (λ t. row_of (objects_of t.1 class) id) (answer_local schema db d.0)

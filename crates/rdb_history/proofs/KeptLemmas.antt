@@ -3,7 +3,7 @@ use Rattle.std.proofs.Common.{◌≡◌, ℕ, zero, suc, ◌+◌, ◌-◌, ◌<�
 use Rattle.std.specs.List.{cons_option}
 use Rattle.std.specs.Option.{option_map_or, option_and_then}
 use Rattle.std.specs.HashMap.{spare}
-use Rattle.std.proofs.lemmas.List.{length_push, take-append-le}
+use Rattle.std.proofs.lemmas.List.{length_push, take_at, take-append-le}
 use Rattle.std.proofs.lemmas.List.Elements.{filter_map-append}
 use Rattle.rdb_base.specs.Room.{Reserved}
 use Rattle.rdb_base.specs.declared.operation.Op.{Op}
@@ -24,7 +24,7 @@ use Rattle.rdb_history.specs.Indexing.{StandsAt, AreLed, IsIndexing}
 use Rattle.rdb_history.proofs.ListLemmas.{get_left, get_last, get_within, get_there, get_pushed}
 use Rattle.rdb_history.proofs.IndexLemmas.{some_at, at_some}
 
-row_after_all_append : (object : ℕ × ℕ) (row : Option Row) (xs ys : List (List (Op × Reply))) → row_after_all object row (xs ++ ys) ≡ row_after_all object (row_after_all object row xs) ys
+pub row_after_all_append : (object : ℕ × ℕ) (row : Option Row) (xs ys : List (List (Op × Reply))) → row_after_all object row (xs ++ ys) ≡ row_after_all object (row_after_all object row xs) ys
 row_after_all_append object row [] ys = refl
 row_after_all_append object row (x ∷ xs) ys = row_after_all_append object (row_after object row x) xs ys
 
@@ -88,6 +88,7 @@ module _ (es : List Entry) (e : Entry) where
       → ((i : ℕ) → i < length writes → slice_get more i ≡ slice_get writes i) → IsIndexed es writes n c → IsIndexed (es ++ e ∷ []) more n c
   indexed_kept writes more n c below longer same is = record {
     place = go (slice_get es c.entry) refl is.place ∙ ap Some (sym (done_kept n below));
+    earlier = ap commits (take-append-le c.entry es (e ∷ []) (let f = there (slice_get es c.entry) refl is.place in omega arith)) ∙ is.earlier;
     classes = subst (HasClasses c.classes) (sym (done_kept n below)) is.classes;
     count = is.count ∙ ap (λ d. length (objects_written d)) (sym (done_kept n below));
     within = let f = is.within in omega arith;
@@ -97,6 +98,10 @@ module _ (es : List Entry) (e : Entry) where
         (same (c.first + k) (get_within writes (c.first + k) w.0 w.1) ∙ w.1) (write_kept n object w.0 below w.2);
   }
     where
+      there : (o : Option Entry) → slice_get es c.entry ≡ o → option_and_then committed o ≡ Some (done_in es n) → c.entry < length es
+      there None f g = (cc)
+      there (Some x) f g = get_within es c.entry x f
+
       go : (o : Option Entry) → slice_get es c.entry ≡ o → option_and_then committed o ≡ Some (done_in es n) → option_and_then committed (slice_get (es ++ e ∷ []) c.entry) ≡ Some (done_in es n)
       go None f g = (cc)
       go (Some x) f g = ap (option_and_then committed) (get_left es (e ∷ []) c.entry (get_within es c.entry x f) ∙ f) ∙ g
@@ -223,6 +228,7 @@ module _ (es : List Entry) (story : Story) (number : ℕ) where
       indexed_now : IsIndexed (es ++ own ∷ []) more.items (suc (commits es)) now
       indexed_now = record {
         place = ap (option_and_then committed) (ap (slice_get (es ++ own ∷ [])) is_place ∙ get_last es own) ∙ ap Some (sym done_last);
+        earlier = ap commits (take_at es (own ∷ []) place (sym is_place)) ∙ (omega arith);
         classes = subst (HasClasses classes) (sym done_last) has;
         count = counted ∙ ap (λ d. length (objects_written d)) (sym done_last);
         within = let f = taken.count in omega arith;

@@ -1,5 +1,5 @@
 -- Touches and events by the rows that were last written are those of the databases, where the replies hold.
-use Rattle.std.proofs.Common.{◌≡◌, ◌↔◌, ℕ, ◌-◌, ◌<◌, Bool, true, false, ◌&&◌, ◌||◌, ◌==◌, nat_le, List, [], ◌∷◌, length, slice_get, filter_map, Option, Some, None, Contains, refl, sym, ap, subst, ◌∙◌, arith, inl, inr}
+use Rattle.std.proofs.Common.{◌≡◌, ◌↔◌, ℕ, ◌-◌, ◌<◌, Bool, true, false, ◌&&◌, ◌||◌, ◌==◌, List, [], ◌∷◌, length, slice_get, filter_map, Option, Some, None, Contains, refl, sym, ap, subst, ◌∙◌, arith, inl, inr}
 use Rattle.std.specs.List.{list_any}
 use Rattle.std.specs.Option.{option_map_or, option_map}
 use Rattle.std.proofs.lemmas.Bool.Decides.{nat_tests}
@@ -17,7 +17,7 @@ use Rattle.rdb_schema.specs.declared.schema.Schema.{Schema}
 use Rattle.rdb_schema.specs.declared.schema.EventKind.{EventKind}
 use Rattle.rdb_schema.specs.declared.schema.IndexKind.{IndexKind}
 use Rattle.rdb_schema.specs.Indexes.{finds_keys, is_tree, is_rtree, is_patricia}
-use Rattle.rdb_schema.specs.Values.{values_hold, row_holds, row_length}
+use Rattle.rdb_schema.specs.Values.{values_hold, row_holds}
 use Rattle.rdb_model.specs.Database.{Row, objects_of, row_of}
 use Rattle.rdb_model.specs.Story.{after}
 use Rattle.rdb_model.specs.Fits.{may_write, fits_row, has_class, has_index, fits, AllFit}

@@ -2,11 +2,11 @@
 use Rattle.std.proofs.Common.{◌≡◌, ◌≢◌, ℕ, suc, ◌+◌, ◌-◌, ◌*◌, ◌^◌, ◌%◌, ◌<◌, ◌≤◌, Bool, true, false, cond, ◌||◌, ◌==◌, List, [], ◌∷◌, ◌++◌, length, take, drop, set, slice_get, bit_or, filter_map, Option, Some, None, refl, sym, ap, subst, ◌∙◌, arith, inl, inr, ◌⊎◌, is_some}
 use Rattle.std.specs.List.{list_any, cons_option}
 use Rattle.std.specs.Option.{ForSome}
-use Rattle.std.specs.Int.{bit_at, w64}
+use Rattle.std.specs.Int.{bit_at}
 use Rattle.std.specs.HashMap.{spare}
 use Rattle.std.proofs.lemmas.List.{length_push, length-set}
 use Rattle.std.proofs.lemmas.List.Elements.{filter_map-append}
-use Rattle.std.proofs.lemmas.Nat.Bits.{bit_at-zero, bit_at_set_same, bit_at_set_other}
+use Rattle.std.proofs.lemmas.Nat.Bits.{bit_at-zero, bit_at_or, bit_at-pow_same, bit_at-pow_other}
 use Rattle.std.proofs.lemmas.Bool.Decides.{nat_tests}
 use Rattle.std.proofs.Permutation.{which}
 use Rattle.std.proofs.lemmas.Bool.{cases_lt}
@@ -104,14 +104,11 @@ module _ (done : List (Op × Reply)) (n : ℕ) (d : Op × Reply) (here : slice_g
       ∙ ap (λ w. filter_map written_by (take n done) ++ cons_option w []) is
 
   classes_more : (classes : ℕ) (own : ℕ × ℕ) → written_by d ≡ Some own → HasClasses classes (take n done)
-      → HasClasses (bit_or classes (1 * 2 ^ (own.0 % 64) % 2 ^ 64)) (take (n + 1) done)
+      → HasClasses (bit_or classes (2 ^ (own.0 % 64))) (take (n + 1) done)
   classes_more classes own is so_far i below =
       bit_now (which i (own.0 % 64))
       ∙ ap (λ os. cond (list_any (λ o. o.0 % 64 == i) os) 1 0) (sym (one_written own is))
     where
-      small : own.0 % 64 < 64
-      small = omega arith
-
       any_pushed : (test : ℕ × ℕ → Bool) (os : List (ℕ × ℕ)) (b : Bool) → test own ≡ b → list_any test (os ++ own ∷ []) ≡ (list_any test os || b)
       any_pushed test [] b e = ap (λ t. t || false) e ∙ or_false b
         where
@@ -133,16 +130,29 @@ module _ (done : List (Op × Reply)) (n : ℕ) (d : Op × Reply) (here : slice_g
       or_none false = refl
 
       now : ℕ
-      now = bit_or classes (1 * 2 ^ (own.0 % 64) % 2 ^ 64)
+      now = bit_or classes (2 ^ (own.0 % 64))
+
+      set_bit : bit_at now (own.0 % 64) ≡ 1
+      set_bit =
+          let both = bit_at_or classes (2 ^ (own.0 % 64)) (own.0 % 64) in
+          let one = bit_at-pow_same (own.0 % 64) in
+          let bit : bit_at classes (own.0 % 64) ≤ 1 = omega arith in
+          omega (arith, both, one, bit)
+
+      other_bit : i ≢ own.0 % 64 → bit_at now i ≡ bit_at classes i
+      other_bit other =
+          let both = bit_at_or classes (2 ^ (own.0 % 64)) i in
+          let none = bit_at-pow_other (own.0 % 64) i other in
+          omega (arith, both, none)
 
       bit_now : ((i ≡ own.0 % 64) ⊎ (i ≢ own.0 % 64)) → bit_at now i ≡ cond (list_any (λ o. o.0 % 64 == i) (filter_map written_by (take n done) ++ own ∷ [])) 1 0
       bit_now (inl e) =
           let yes : (own.0 % 64 == i) ≡ true = grind (arith, nat_tests) in
-          ap (bit_at now) e ∙ bit_at_set_same w64 classes (own.0 % 64) small
+          ap (bit_at now) e ∙ set_bit
           ∙ sym (ap (λ b. cond b 1 0) (any_pushed (λ o. o.0 % 64 == i) (filter_map written_by (take n done)) true yes ∙ or_true (list_any (λ o. o.0 % 64 == i) (filter_map written_by (take n done)))))
       bit_now (inr other) =
           let no : (own.0 % 64 == i) ≡ false = grind (arith, nat_tests) in
-          bit_at_set_other w64 classes (own.0 % 64) small i other ∙ so_far i below
+          other_bit other ∙ so_far i below
           ∙ sym (ap (λ b. cond b 1 0) (any_pushed (λ o. o.0 % 64 == i) (filter_map written_by (take n done)) false no ∙ or_none (list_any (λ o. o.0 % 64 == i) (filter_map written_by (take n done)))))
 
   module _ (place : ℕ) (old : Reserved Write) (before : Newest) (classes : ℕ) (writes : Reserved Write) (table : Newest) (so_far : AreTakenUp place done old before n classes writes table) where
@@ -167,13 +177,13 @@ module _ (done : List (Op × Reply)) (n : ℕ) (d : Op × Reply) (here : slice_g
         → ((i : ℕ) → newest_of table own ≡ Some i → length old.items ≤ i → WritesAgain i (record { entry = place; operation = n }) writes new table next)
         → (ForSome (newest_of table own) (λ i. i < length old.items) → WritesFirst own (record { entry = place; operation = n }) writes new table next)
         → 0 < writes.room
-        → AreTakenUp place done old before (n + 1) (bit_or classes (1 * 2 ^ (own.0 % 64) % 2 ^ 64)) new next
+        → AreTakenUp place done old before (n + 1) (bit_or classes (2 ^ (own.0 % 64))) new next
     one_taken_up own new next is again first roomy = go (newest_of table own) refl
       where
         at : Position
         at = record { entry = place; operation = n }
 
-        by_again : (i : ℕ) → newest_of table own ≡ Some i → length old.items ≤ i → AreTakenUp place done old before (n + 1) (bit_or classes (1 * 2 ^ (own.0 % 64) % 2 ^ 64)) new next
+        by_again : (i : ℕ) → newest_of table own ≡ Some i → length old.items ≤ i → AreTakenUp place done old before (n + 1) (bit_or classes (2 ^ (own.0 % 64))) new next
         by_again i found high =
             let within : i < length writes.items = so_far.known own i found in
             let was = get_there writes.items i within in
@@ -198,7 +208,7 @@ module _ (done : List (Op × Reply)) (n : ℕ) (d : Op × Reply) (here : slice_g
                   (again_taken entries rows (length old.items) (take n done) d at writes.items table own is (stands n ∙ here) i was.0 found high was.1 (so_far.indexed entries rows stands led))));
             }
 
-        by_first : ForSome (newest_of table own) (λ i. i < length old.items) → AreTakenUp place done old before (n + 1) (bit_or classes (1 * 2 ^ (own.0 % 64) % 2 ^ 64)) new next
+        by_first : ForSome (newest_of table own) (λ i. i < length old.items) → AreTakenUp place done old before (n + 1) (bit_or classes (2 ^ (own.0 % 64))) new next
         by_first below =
             let done_so = first below in
             let is_new = done_so.written in
@@ -225,7 +235,7 @@ module _ (done : List (Op × Reply)) (n : ℕ) (d : Op × Reply) (here : slice_g
             known_now object j long true e = let f : length writes.items ≡ j = (cc) in omega arith
             known_now object j long false e = let f = so_far.known object j e in omega arith
 
-        go : (f : Option ℕ) → newest_of table own ≡ f → AreTakenUp place done old before (n + 1) (bit_or classes (1 * 2 ^ (own.0 % 64) % 2 ^ 64)) new next
+        go : (f : Option ℕ) → newest_of table own ≡ f → AreTakenUp place done old before (n + 1) (bit_or classes (2 ^ (own.0 % 64))) new next
         go None e = by_first (λ i g. (cc))
         go (Some i) e = elim (cases_lt i (length old.items)) [
           | inl low ↦ by_first (λ j g. let f : i ≡ j = (cc) in omega arith)

@@ -1,6 +1,6 @@
 -- What a journal keeps beside its entries: where each commit stands, which classes it wrote, and where the objects that it wrote
 -- were written, by it and before it.
-use Rattle.std.specs.Prelude.{◌≡◌, ℕ, suc, ◌+◌, ◌-◌, ◌<◌, ◌≤◌, ◌%◌, ◌==◌, List, [], length, slice_get, Option, Some, None, IsSomeAnd, MatchOption, option_and_then, if◌then◌else◌}
+use Rattle.std.specs.Prelude.{◌≡◌, ℕ, suc, ◌+◌, ◌-◌, ◌<◌, ◌≤◌, ◌%◌, ◌==◌, List, [], length, take, slice_get, Option, Some, None, IsSomeAnd, MatchOption, option_and_then, if◌then◌else◌}
 use Rattle.std.specs.List.{filter_map, list_any}
 use Rattle.std.specs.Option.{option_map_or}
 use Rattle.std.specs.Int.{bit_at}
@@ -72,6 +72,7 @@ pub record IsWriteOf (entries : List Entry) (commit : ℕ) (object : ℕ × ℕ)
 -- that what is kept of the commit of a number is so: its place, its classes, and a write of each object that it wrote
 pub record IsIndexed (entries : List Entry) (writes : List Write) (commit : ℕ) (c : Commit) : Type 0 where
   pub place : option_and_then committed (slice_get entries c.entry) ≡ Some (done_in entries commit)
+  pub earlier : commits (take c.entry entries) ≡ commit - 1
   pub classes : HasClasses c.classes (done_in entries commit)
   pub count : c.count ≡ length (objects_written (done_in entries commit))
   pub within : c.first + c.count ≤ length writes

@@ -1,6 +1,9 @@
 pub mod Rows
 pub mod RowTouch
 pub mod RowEvents
+pub mod FirstTouch
+pub mod NextEntry
+pub mod Classes
 pub mod Watches
 pub mod Kept
 pub mod Indexing

@@ -22,3 +22,14 @@ pub record IsNextEvent (class : ℕ) (kind : EventKind) (journal : List Entry) (
 abbrev pub HasNoEvent : ℕ → EventKind → List Entry → ℕ × ℕ → ℕ → Type 0
 HasNoEvent class kind journal place n =
     (other : ℕ × ℕ) → HappenedByRows class kind journal other → other.0 ≤ n → is_behind place other ≡ false
+
+-- that the event of a commit and of an id is the first of that commit behind a place
+pub record IsLeastEvent (class : ℕ) (kind : EventKind) (journal : List Entry) (place : ℕ × ℕ) (commit id : ℕ) : Type 0 where
+  pub happened : HappenedByRows class kind journal (commit, id)
+  pub behind : is_behind place (commit, id) ≡ true
+  pub least : (other : ℕ) → HappenedByRows class kind journal (commit, other) → is_behind place (commit, other) ≡ true → id ≤ other
+
+-- that no event of a commit is behind a place
+abbrev pub HasNoEventOf : ℕ → EventKind → List Entry → ℕ × ℕ → ℕ → Type 0
+HasNoEventOf class kind journal place commit =
+    (id : ℕ) → HappenedByRows class kind journal (commit, id) → is_behind place (commit, id) ≡ false

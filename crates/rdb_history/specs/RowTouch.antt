@@ -41,6 +41,10 @@ pub record IsFirstTouch (schema : Schema) (journal : List Entry) (story : Story)
   pub first_operation : (k : ℕ) → 0 < k → k < operation → touched_by_rows schema journal commit story k ≡ false
   pub first_commit : (n k : ℕ) → story.snapshot < n → n < commit → touched_by_rows schema journal n story k ≡ false
 
+-- that no commit above a story's snapshot, up to the one of a number, touches it
+abbrev pub IsUntouchedUpTo : Schema → List Entry → Story → ℕ → Type 0
+IsUntouchedUpTo schema journal story last = (n k : ℕ) → story.snapshot < n → n ≤ last → touched_by_rows schema journal n story k ≡ false
+
 -- that no commit above a story's snapshot touches it
 abbrev pub IsUntouched : Schema → List Entry → Story → Type 0
-IsUntouched schema journal story = (n k : ℕ) → story.snapshot < n → n ≤ commits journal → touched_by_rows schema journal n story k ≡ false
+IsUntouched schema journal story = IsUntouchedUpTo schema journal story (commits journal)

@@ -7,8 +7,10 @@ ghost use Rattle.rdb_base.specs.declared.identity.Kind.TheVariants as kind;
 ghost use Rattle.rdb_model.specs.Fits.{Fits, AllFit};
 ghost use Rattle.rdb_model.specs.Journal.{commits};
 ghost use Rattle.rdb_model.specs.Touch.{rests};
+ghost use Rattle.rdb_history.specs.Classes.{LooksAt};
 ghost use Rattle.rdb_history.specs.RowTouch.{rests_on_row, touches_by_rows, touched_by_rows, IsFirstTouch, IsUntouched};
 
+use crate::classes::{are_apart, classes_looked_at};
 use crate::journal::{Change, Journal};
 use rdb_base::journal::Story;
 use rdb_base::operation::{Op, Reply};
@@ -75,18 +77,45 @@ fn touched_operation(schema: &Schema, journal: &Journal, commit: u64, story: &St
     None
 }
 
+// The same, where a commit of none of the classes that the story looks at is passed by in one step.
+fn touched_if_looked_at(
+    schema: &Schema,
+    journal: &Journal,
+    commit: u64,
+    story: &Story,
+    looked_at: u64,
+) -> Option<u32>
+    requires looked_at { LooksAt looked_at story.now.done }
+    requires fits { AllFit schema.now kind.ReadWrite story.now.done }
+    requires few { length story.now.done < 2 ^ 32 }
+    requires first { 0 < commit }
+    requires there { commit ≤ commits journal.now.entries }
+    ensures some { IfSome result (λ operation. (0 < operation)
+        × (touched_by_rows schema.now journal.now.entries commit story.now operation ≡ true)
+        × ((k : ℕ) → 0 < k → k < operation → touched_by_rows schema.now journal.now.entries commit story.now k ≡ false)) }
+    ensures none { IfNone result ((k : ℕ) → touched_by_rows schema.now journal.now.entries commit story.now k ≡ false) }
+{
+    if are_apart(journal.classes(commit), looked_at) {
+        None
+    } else {
+        touched_operation(schema, journal, commit, story)
+    }
+}
+
 /// The first commit above a story's snapshot that touches it, and the first of its operations that this commit touches, from 1; or
 /// none, where no commit above its snapshot touches it. It takes no memory. The cost grows with the commits above the snapshot, each
-/// by the objects that it wrote times the operations of the story, and not with the journal.
+/// by the objects that it wrote times the operations of the story, and not with the journal before; a commit of none of the classes that
+/// the story looks at is passed by in one step.
 pub fn first_touch(schema: &Schema, journal: &Journal, story: &Story) -> Option<(u64, u32)>
     requires fits { AllFit schema.now kind.ReadWrite story.now.done }
     requires few { length story.now.done < 2 ^ 32 }
     ensures some { IfSome result (λ touch. IsFirstTouch schema.now journal.now.entries story.now touch.0 touch.1) }
     ensures none { IfNone result (IsUntouched schema.now journal.now.entries story.now) }
 {
+    let looked_at = classes_looked_at(&story.done);
     for seen in story.snapshot..journal.commits() {
         let commit = seen + 1;
-        if let Some(operation) = touched_operation(schema, journal, commit, story) {
+        if let Some(operation) = touched_if_looked_at(schema, journal, commit, story, looked_at) {
             return Some((commit, operation));
         }
     }

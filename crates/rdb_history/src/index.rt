@@ -12,6 +12,7 @@ ghost use Rattle.rdb_history.specs.Rows.{same_object};
 ghost use Rattle.rdb_history.specs.Kept.{operation_at, object_at, row_at, newest_of, HasClasses};
 ghost use Rattle.rdb_history.specs.Indexing.{StandsAt, AreLed, AreKnown, position_of, WritesAgain, WritesFirst, IsIndexing};
 
+use crate::classes::class_set;
 use crate::rows::{row_left, written_by};
 use rdb_base::journal::{Done, Entry};
 use rdb_base::operation::{Op, Reply};
@@ -172,7 +173,8 @@ pub(crate) fn index_writes(
                 operation,
             };
             index_write(class, id, at, first, writes, newest);
-            classes |= 1u64 << (class % 64);
+            let own = class_set(class);
+            classes |= own;
         }
     }
     classes

@@ -7,7 +7,7 @@
 //! | each of its writes | where the object was last written before the commit, if it was, and where by the commit   |
 //! | each object        | the number of its newest write                                                           |
 
-ghost use Rattle.std.specs.Prelude.{◌≡◌, ◌+◌, ◌-◌, ◌<◌, ◌≤◌, ◌==◌, [], ◌∷◌, ◌++◌, length, slice_get, OnOk, OnErr, IsSome, Some, option_and_then};
+ghost use Rattle.std.specs.Prelude.{◌≡◌, ◌+◌, ◌-◌, ◌<◌, ◌≤◌, ◌==◌, [], ◌∷◌, ◌++◌, length, take, slice_get, OnOk, OnErr, IsSome, Some, option_and_then};
 ghost use Rattle.std.specs.List.{filter_map};
 ghost use Rattle.std.specs.Option.{option_copied};
 ghost use Rattle.rdb_model.specs.Journal.{commits, committed, done_of};
@@ -108,7 +108,8 @@ impl Journal {
 
     /// Reserves room for so many further entries, and for so many further writes of commits, beside the room that there is. Entries and
     /// room are never more than `MAX_PLACES`, nor are writes and their room. Where memory is wanting, or there would be more, nothing
-    /// changes. The cost is that of what is reserved, spread over many calls.
+    /// changes. No room is given back but by `append`, which uses it up: who keeps count of what is claimed of it asks `room` and
+    /// `write_room`, and reserves what is wanting. The cost is that of what is reserved, spread over many calls.
     pub fn reserve(&mut self, entries: usize, writes: usize) -> Result<(), NoMemory>
         ensures ok { OnOk result (self.new ≡
             record self.old { room = self.old.room + entries; write_room = self.old.write_room + writes }) }
@@ -123,14 +124,16 @@ impl Journal {
         Ok(())
     }
 
-    /// Appends an entry into reserved room. Of a commit it keeps what it wrote, and gives back the room of writes beyond the first of an
-    /// object. It takes no memory; the cost grows with the operations of a commit, and is constant for other entries.
+    /// Appends an entry into reserved room. Of a commit it keeps what it wrote, and leaves the room of writes beyond the first of an
+    /// object, so that what it leaves to others is at least what they reserved. It takes no memory; the cost grows with the operations
+    /// of a commit, and is constant for other entries.
     pub fn append(&mut self, entry: Entry)
         requires room { 0 < self.old.room }
         requires write_room { length (filter_map written_by (done_of entry)) ≤ self.old.write_room }
         ensures entries { self.new.entries ≡ self.old.entries ++ entry ∷ [] }
         ensures room { self.new.room ≡ self.old.room - 1 }
         ensures write_room { self.new.write_room ≡ self.old.write_room - length (objects_written (done_of entry)) }
+        ensures left { self.old.write_room ≤ self.new.write_room + length (filter_map written_by (done_of entry)) }
     {
         let place = self.entries.len();
         self.entries.append(entry);
@@ -190,11 +193,12 @@ impl Journal {
         self.commits.len() as u64
     }
 
-    /// The place among the entries of the commit of a number, from 1. The cost is constant.
+    /// The place among the entries of the commit of a number, from 1: its entry, with that many commits before it. The cost is constant.
     pub fn place(&self, commit: u64) -> usize
         requires first { 0 < commit }
         requires there { commit ≤ commits self.now.entries }
-        ensures { option_and_then committed (slice_get self.now.entries result) ≡ Some (done_in self.now.entries commit) }
+        ensures done { option_and_then committed (slice_get self.now.entries result) ≡ Some (done_in self.now.entries commit) }
+        ensures earlier { commits (take result self.now.entries) ≡ commit - 1 }
     {
         self.commits.at(commit as usize - 1).entry
     }

@@ -1,7 +1,12 @@
 //! Laws of the rows that commits leave, each the contract of a function that does nothing: where a journal's numbers are in order and its
 //! replies hold, what is read off these rows is what its databases say.
 
-ghost use Rattle.std.specs.Prelude.{◌≡◌, ◌↔◌, ℕ, ◌-◌, ◌<◌, ◌≤◌, List, length, Some, None, false};
+pub mod databases;
+pub mod growth;
+pub mod stories;
+pub mod writes;
+
+ghost use Rattle.std.specs.Prelude.{◌≡◌, ◌↔◌, ℕ, ◌-◌, ◌<◌, ◌≤◌, List, length, Some, None, true, false};
 ghost use Rattle.std.specs.List.{Contains};
 ghost use Rattle.rdb_base.specs.declared.identity.Kind.TheVariants as kind;
 ghost use Rattle.rdb_base.specs.declared.journal.Story.{Story};
@@ -15,9 +20,11 @@ ghost use Rattle.rdb_model.specs.Journal.{commits, fold};
 ghost use Rattle.rdb_model.specs.Parts.{NumbersInOrder, RepliesHold};
 ghost use Rattle.rdb_model.specs.Touch.{touched};
 ghost use Rattle.rdb_model.specs.Events.{event_kind, event_list, next_event, HappenedIn};
-ghost use Rattle.rdb_history.specs.Rows.{last_row};
+ghost use Rattle.rdb_model.specs.Validation.{was_written};
+ghost use Rattle.rdb_history.specs.Rows.{last_row, done_in};
 ghost use Rattle.rdb_history.specs.RowTouch.{touched_by_rows, IsFirstTouch, IsUntouched};
 ghost use Rattle.rdb_history.specs.RowEvents.{HappenedByRows, IsNextEvent, HasNoEvent};
+ghost use Rattle.rdb_history.specs.FirstTouch.{TouchesFirst, NoneTouches};
 
 /// The row that an object was last written with among the first commits is the one that it has in the database that these make.
 pub fn last_row_is_the_databases()
@@ -40,6 +47,20 @@ pub fn untouched_by_rows_is_untouched()
         NumbersInOrder journal → RepliesHold schema journal → AllFit schema kind.ReadWrite story.done → IsUntouched schema journal story →
         Contains journal (entry.Commit own commit) → story.snapshot < commit →
         touched schema (fold schema journal (commit - 1)) (entry.Commit own commit) story operation ≡ false }
+{}
+
+/// The first touch by these rows is the first one on the databases, and where there is none, no commit above the snapshot touches the
+/// story.
+pub fn first_touch_by_rows_is_the_first_touch()
+    ensures databases { (schema : Schema) (journal : List Entry) (story : Story) (commit operation : ℕ) →
+        NumbersInOrder journal → RepliesHold schema journal → AllFit schema kind.ReadWrite story.done →
+        IsFirstTouch schema journal story commit operation → (own : Story) × TouchesFirst schema journal own commit story operation }
+    ensures rows { (schema : Schema) (journal : List Entry) (own story : Story) (commit operation : ℕ) →
+        NumbersInOrder journal → RepliesHold schema journal → AllFit schema kind.ReadWrite story.done →
+        TouchesFirst schema journal own commit story operation → IsFirstTouch schema journal story commit operation }
+    ensures none { (schema : Schema) (journal : List Entry) (story : Story) →
+        NumbersInOrder journal → RepliesHold schema journal → AllFit schema kind.ReadWrite story.done →
+        IsUntouched schema journal story ↔ NoneTouches schema journal story }
 {}
 
 /// A story has at most one first touch, and none where it is untouched.
@@ -73,4 +94,18 @@ pub fn next_event_is_the_first_by_rows()
     ensures none { (schema : Schema) (journal : List Entry) (class event : ℕ) (kind : EventKind) (place : ℕ × ℕ) →
         NumbersInOrder journal → RepliesHold schema journal → event_kind schema class event ≡ Some kind →
         next_event place (event_list schema class event journal) ≡ None → HasNoEvent class kind journal place (commits journal) }
+{}
+
+/// At most one event is the first behind a place, and none where no event is behind it.
+pub fn next_event_is_one()
+    ensures one { (class : ℕ) (kind : EventKind) (journal : List Entry) (place next other : ℕ × ℕ) →
+        IsNextEvent class kind journal place next → IsNextEvent class kind journal place other → next ≡ other }
+    ensures some { (class : ℕ) (kind : EventKind) (journal : List Entry) (place next : ℕ × ℕ) →
+        IsNextEvent class kind journal place next → ¬ HasNoEvent class kind journal place (commits journal) }
+{}
+
+/// An event of a commit is of an object that the commit wrote.
+pub fn events_by_rows_are_of_written_objects()
+    ensures { (class : ℕ) (kind : EventKind) (journal : List Entry) (pair : ℕ × ℕ) →
+        HappenedByRows class kind journal pair → was_written (done_in journal pair.0) (class, pair.1) ≡ true }
 {}

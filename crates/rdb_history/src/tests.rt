@@ -1,4 +1,4 @@
-//! The worked cases through the first touch, and the rows before and after commits of a long journal.
+//! The worked cases through the first touch, the rows before and after commits of a long journal, and notes of a watch.
 
 ghost use Rattle.std.specs.Prelude.{◌≡◌, ◌↔◌, IsTrue, length};
 ghost use Rattle.std.specs.List.{filter_map};
@@ -8,6 +8,7 @@ ghost use Rattle.rdb_model.specs.Fits.{AllFit};
 use crate::first_touch::first_touch;
 use crate::journal::Journal;
 use crate::rows::{last_row, room_taken};
+use crate::watches::{Note, Notice, notes_agree};
 use rdb_base::identity::Kind;
 use rdb_base::journal::{Done, Entry, Story};
 use rdb_base::list::{List, NoMemory};
@@ -15,12 +16,12 @@ use rdb_base::operation::{Op, Place, Reply};
 use rdb_base::text::Text;
 use rdb_base::value::{Leaf, Row, Value};
 use rdb_model::fitting::fits;
-use rdb_schema::schema::{Class, Field, FieldType, IndexDecl, IndexKind, Schema};
+use rdb_schema::schema::{Class, Event, EventKind, Field, FieldType, IndexDecl, IndexKind, Schema};
 use std::alloc::Global;
 use std::process::Abort;
 use std::test::Fail;
 
-// Numbers of 4 bytes without a sign, in a tree.
+// Numbers of 4 bytes without a sign, in a tree, with an event for each that is made.
 fn numbers(alloc: Global) -> Result<Schema, NoMemory> {
     let mut fields = List::new(alloc);
     let ty = FieldType::Num {
@@ -37,6 +38,10 @@ fn numbers(alloc: Global) -> Result<Schema, NoMemory> {
         key: List::from_slice(alloc, &[0])?,
         estimate: None,
     })?;
+    let mut events = List::new(alloc);
+    let name = Text::of(alloc, "made")?;
+    let kind = EventKind::New;
+    events.push(Event { name, kind })?;
     let mut classes = List::new(alloc);
     classes.push(Class {
         name: Text::of(alloc, "Item")?,
@@ -44,7 +49,7 @@ fn numbers(alloc: Global) -> Result<Schema, NoMemory> {
         autoid: true,
         estimate: None,
         indexes,
-        events: List::new(alloc),
+        events,
     })?;
     Ok(Schema {
         name: Text::of(alloc, "shop")?,
@@ -239,6 +244,53 @@ fn a_change_has_the_rows_before_and_after(rt: HostRuntime) -> Result<(), Fail> {
     }
     for commit in 1..1001u64 {
         expect_change(&rt, &journal, commit)?;
+    }
+    Ok(())
+}
+
+const MADE: u32 = 0;
+
+fn note(notice: Notice) -> Note {
+    Note {
+        class: 0,
+        event: MADE,
+        notice,
+    }
+}
+
+// A journal whose first two commits make an object each.
+fn two_made(alloc: Global) -> Result<Journal, NoMemory> {
+    let mut journal = Journal::new(alloc);
+    for commit in 1..3u64 {
+        let mut done = List::new(alloc);
+        made(alloc, &mut done, 1, commit)?;
+        keep_commit(&mut journal, commit, done)?;
+    }
+    Ok(journal)
+}
+
+// What a client may be told of the objects made, and what it may not.
+#[test]
+fn notes_agree_where_each_event_is_told_once_and_in_order(rt: HostRuntime) -> Result<(), Fail> {
+    let alloc = rt.alloc();
+    let schema = numbers(alloc)?;
+    let journal = two_made(alloc)?;
+    let watching = |at: u64| note(Notice::Watching { at });
+    let none = |at: u64| note(Notice::NoEvent { at });
+    let event = |commit: u64| note(Notice::Event { commit, id: commit });
+    let cases = [
+        ([watching(1), none(1), event(2), none(2)], true),
+        ([watching(0), event(1), event(2), none(2)], true),
+        ([watching(0), event(2), none(2), none(2)], false),
+        ([watching(1), event(2), event(2), none(2)], false),
+        ([watching(1), none(2), event(2), none(2)], false),
+        ([watching(1), watching(1), event(2), none(2)], false),
+        ([watching(2), none(2), none(1), none(2)], false),
+        ([watching(3), none(2), none(2), none(2)], false),
+        ([none(2), watching(2), none(2), none(2)], false),
+    ];
+    for (notes, expected) in cases {
+        assert_eq!(rt; notes_agree(&schema, &journal, &notes), expected);
     }
     Ok(())
 }

@@ -19,7 +19,7 @@ loop-operation-preserved c = elim c.match-written_by.branch [
   | in-Some w ↦
       let own : ℕ × ℕ = (w.in-Some.class, w.in-Some.id) in
       let starts : c.len-first.result ≡ length c.args.writes.now.items = c.len-first.ensures.value in
-      rw (w.classes-is, w.writes-is, w.newest-is)
+      rw (w.classes-is, w.class_set-own.ensures, w.writes-is, w.newest-is)
       (one_taken_up c.args.done.now c.loop-operation.operation c.at.result.now c.at.ensures c.args.place c.args.writes.now c.args.newest.now c.loop-operation.classes c.loop-operation.writes c.loop-operation.newest c.loop-operation.invariant own
       w.index_write.new.writes w.index_write.new.newest (sym w.in-Some.ensures)
       (λ i found high. w.index_write.ensures.again i found (omega arith))

@@ -1,4 +1,4 @@
-use Rattle.std.proofs.Common.{◌≡◌, Bool, true, false, is_some, ap, sym, ◌∙◌, arith}
+use Rattle.std.proofs.Common.{◌≡◌, true, false, is_some, ap, sym, ◌∙◌, arith}
 use Rattle.rdb_model.specs.Touch.{written_by}
 use Rattle.rdb_history.proofs.TakingUp.{one_taken_off, none_taken_off}
 use Rattle.rdb_history.proofs.rows.room_taken.Goals.{then-is_some, else-is_some}
