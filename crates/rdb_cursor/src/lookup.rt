@@ -93,7 +93,11 @@ fn look_in_index<C: Cells, M: Marks, L: Ledger>(
             up,
         } => {
             let keyed = &view.class.indexes()[*index as usize];
-            let declared = schema.classes.at(*class as usize).indexes.at(*index as usize);
+            let declared = schema
+                .classes
+                .at(*class as usize)
+                .indexes
+                .at(*index as usize);
             seek(view, keyed, &declared.key, place, *up, &mut steps)
         }
         _ => unreachable!(),

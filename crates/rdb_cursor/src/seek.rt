@@ -22,9 +22,7 @@ pub(crate) fn seek<C: Cells, M: Marks, L: Ledger>(
     up: bool,
     steps: &mut Steps<L>,
 ) -> Result<Reply, NoMemory> {
-    let mut found = keyed
-        .index
-        .seek(view.cells, &keyed.keys, place, up, steps);
+    let mut found = keyed.index.seek(view.cells, &keyed.keys, place, up, steps);
     for _ in 0..LAST_HEAD {
         let Some(version) = found else {
             return Ok(Reply::End);
@@ -36,9 +34,7 @@ pub(crate) fn seek<C: Cells, M: Marks, L: Ledger>(
             return Ok(Reply::At { key, id });
         }
         let next = Place::At { key, id };
-        found = keyed
-            .index
-            .seek(view.cells, &keyed.keys, &next, up, steps);
+        found = keyed.index.seek(view.cells, &keyed.keys, &next, up, steps);
     }
     unreachable!()
 }

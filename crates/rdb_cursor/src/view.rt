@@ -12,6 +12,7 @@ use rdb_sight::{counted, is_better};
 use rdb_store::{ClassStore, KeyedIndex};
 
 /// A class, its cells, and who reads them.
+#[derive(Drop)]
 pub(crate) struct View<'a, C: Cells, M: Marks> {
     pub(crate) class: &'a ClassStore,
     pub(crate) cells: &'a C,

@@ -1,12 +1,12 @@
 -- A hash index round one of its buckets.
-use Rattle.std.proofs.Common.{◌≡◌, ◌<◌, ℕ, List, length, slice_get, Some, sym, ap, subst, ◌∙◌}
+use Rattle.std.proofs.Common.{◌≡◌, ◌<◌, ℕ, List, length, sym, ap, subst, ◌∙◌}
 use Rattle.rdb_pages.specs.declared.cell.CellRef.{CellRef}
 use Rattle.rdb_cells.specs.HashFormat.{table_buckets}
 use Rattle.rdb_cells.specs.HeadFormat.{index_roots}
 use Rattle.rdb_cells.specs.Images.{Image}
 use Rattle.rdb_cells.specs.Keys.{Sayings, ListsVersions}
 use Rattle.rdb_cells.specs.Links.{Node, numbers}
-use Rattle.rdb_hash.specs.Shape.{Held, Table, AreTables, AreHashed, IsTable, IsHash, hash_nodes, versions_of}
+use Rattle.rdb_hash.specs.Shape.{Held, Table, AreTables, AreHashed, IsHash, hash_nodes, versions_of}
 use Rattle.rdb_hash.proofs.ShapeLemmas.{Around, tables_of, nodes_of, around}
 use Rattle.rdb_hash.proofs.ShapeLemmas as shape
 

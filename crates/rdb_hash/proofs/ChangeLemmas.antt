@@ -1,12 +1,11 @@
 -- A hash index as one of its buckets changes, and the cell of that bucket's table.
-use Rattle.std.proofs.Common.{◌≡◌, ◌≢◌, ◌⊎◌, ◌↔◌, ◌++◌, zero, suc, ℕ, List, [], ◌∷◌, length, map, slice_get, Some, inl, inr, refl, sym, ap, subst, ◌∙◌, arith}
+use Rattle.std.proofs.Common.{◌≡◌, ◌≢◌, ◌⊎◌, ◌↔◌, ◌++◌, zero, suc, ℕ, List, [], ◌∷◌, length, map, slice_get, Some, inl, inr, refl, sym, ap, subst, ◌∙◌}
 use Rattle.std.proofs.lemmas.List.{append_assoc}
 use Rattle.std.proofs.lemmas.List.Sorted.{IsPermutation-sym, IsPermutation-middle}
 use Rattle.std.specs.Prelude.{IsPermutation}
 use Rattle.rdb_pages.specs.declared.cell.CellRef.{CellRef}
-use Rattle.rdb_cells.specs.HashFormat.{table_buckets}
 use Rattle.rdb_cells.specs.Keys.{Sayings}
-use Rattle.rdb_cells.specs.Links.{IsAmong, Node, Placed, numbers, segment, start}
+use Rattle.rdb_cells.specs.Links.{IsAmong, Placed, numbers, segment}
 use Rattle.rdb_cells.proofs.LinkLemmas.{among_either, among_front, among_back, numbers_append}
 use Rattle.rdb_hash.specs.Shape.{Held, Entry, Table, IsTable, AreEntriesOf, AreHashed, bucket_number, own_node, starts, bucket_nodes, hash_nodes, versions_of, version_in}
 use Rattle.rdb_hash.proofs.ListPlaces.{each_with, same_length}
@@ -146,17 +145,17 @@ one_more a n k front back x version hash is =
     let e = versions_of (behind a) in
     let here : versions_of (segment (x ∷ back) 0) ≡ version ∷ ns = ap (λ (held : Held). version_in held ++ ns) is in
     let with_it : versions_of (nodes_of (changed a n (front ++ x ∷ back))) ≡ (f ++ (l ++ ms)) ++ version ∷ (ns ++ e) =
-        versions_around (changed a n (front ++ x ∷ back))
-        ∙ ap (λ (rs : List CellRef). f ++ (l ++ (rs ++ e))) (versions_segment front (x ∷ back) ∙ ap (λ (rs : List CellRef). ms ++ rs) here)
-        ∙ ap (λ (rs : List CellRef). f ++ (l ++ rs)) (append_assoc ms (version ∷ ns) e)
-        ∙ ap (λ (rs : List CellRef). f ++ rs) (sym (append_assoc l ms (version ∷ (ns ++ e))))
-        ∙ sym (append_assoc f (l ++ ms) (version ∷ (ns ++ e))) in
+    versions_around (changed a n (front ++ x ∷ back))
+    ∙ ap (λ (rs : List CellRef). f ++ (l ++ (rs ++ e))) (versions_segment front (x ∷ back) ∙ ap (λ (rs : List CellRef). ms ++ rs) here)
+    ∙ ap (λ (rs : List CellRef). f ++ (l ++ rs)) (append_assoc ms (version ∷ ns) e)
+    ∙ ap (λ (rs : List CellRef). f ++ rs) (sym (append_assoc l ms (version ∷ (ns ++ e))))
+    ∙ sym (append_assoc f (l ++ ms) (version ∷ (ns ++ e))) in
     let without_it : versions_of (nodes_of (changed a k (front ++ back))) ≡ (f ++ (l ++ ms)) ++ (ns ++ e) =
-        versions_around (changed a k (front ++ back))
-        ∙ ap (λ (rs : List CellRef). f ++ (l ++ (rs ++ e))) (versions_segment front back)
-        ∙ ap (λ (rs : List CellRef). f ++ (l ++ rs)) (append_assoc ms ns e)
-        ∙ ap (λ (rs : List CellRef). f ++ rs) (sym (append_assoc l ms (ns ++ e)))
-        ∙ sym (append_assoc f (l ++ ms) (ns ++ e)) in
+    versions_around (changed a k (front ++ back))
+    ∙ ap (λ (rs : List CellRef). f ++ (l ++ (rs ++ e))) (versions_segment front back)
+    ∙ ap (λ (rs : List CellRef). f ++ (l ++ rs)) (append_assoc ms ns e)
+    ∙ ap (λ (rs : List CellRef). f ++ rs) (sym (append_assoc l ms (ns ++ e)))
+    ∙ sym (append_assoc f (l ++ ms) (ns ++ e)) in
     subst (λ (rs : List CellRef). IsPermutation (version ∷ rs) (versions_of (nodes_of (changed a n (front ++ x ∷ back))))) (sym without_it)
     (subst (λ (rs : List CellRef). IsPermutation (version ∷ ((f ++ (l ++ ms)) ++ (ns ++ e))) rs) (sym with_it)
     (IsPermutation-sym ((f ++ (l ++ ms)) ++ version ∷ (ns ++ e)) (version ∷ ((f ++ (l ++ ms)) ++ (ns ++ e))) (IsPermutation-middle (f ++ (l ++ ms)) version (ns ++ e))))

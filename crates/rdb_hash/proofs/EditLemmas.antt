@@ -6,14 +6,13 @@ use Rattle.rdb_pages.specs.declared.cell.CellRef.{CellRef}
 use Rattle.rdb_pages.specs.Pages.{zero_cell}
 use Rattle.rdb_cells.specs.declared.kind.Kind.{Kind}
 use Rattle.rdb_cells.specs.declared.kind.Kind.TheVariants as kind
-use Rattle.rdb_cells.specs.declared.pairs.Pair.{Pair}
 use Rattle.rdb_cells.specs.Images.{Image, Writes}
 use Rattle.rdb_cells.specs.Keys.{SameVersionCells, HasNoVersionCell, IsOfVersion}
 use Rattle.rdb_cells.specs.Links.{IsAmong}
 use Rattle.rdb_cells.specs.Records.{content}
 use Rattle.rdb_cells.specs.Words.{number_of, IsOfKind, HasKind}
 use Rattle.rdb_cells.specs.Work.{Work, reading, IsLeft, TakesNone}
-use Rattle.rdb_cells.proofs.VersionCellLemmas.{no_version, itself, further, others_written}
+use Rattle.rdb_cells.proofs.VersionCellLemmas.{itself, further, others_written}
 use Rattle.rdb_cells.proofs.PlainLemmas.{one_kind}
 use Rattle.rdb_hash.proofs.ListPlaces.{some_is}
 use Rattle.rdb_cells.proofs.WorkLemmas.{put_work, put_reads, put_says, put_takes_none, put_longer, none_then, left_blank}

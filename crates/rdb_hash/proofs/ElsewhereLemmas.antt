@@ -1,12 +1,10 @@
 -- A version's entry stands in the bucket of its key's hash, and nowhere else.
-use Rattle.std.proofs.Common.{◌≡◌, ◌≢◌, ◌<◌, ◌≤◌, ◌+◌, ◌⊎◌, ◌++◌, zero, suc, ℕ, List, [], ◌∷◌, length, slice_get, filter, Option, Some, Bool, true, false, cond, inl, inr, refl, sym, ap, subst, ◌∙◌, arith}
+use Rattle.std.proofs.Common.{◌≡◌, ◌≢◌, ◌<◌, ◌+◌, ◌⊎◌, ◌++◌, suc, ℕ, List, [], ◌∷◌, length, slice_get, filter, Some, Bool, false, cond, inl, inr, refl, sym, ap, subst, ◌∙◌, arith}
 use Rattle.std.proofs.lemmas.List.Elements.{filter-append}
 use Rattle.std.proofs.lemmas.List.{append-nil}
-use Rattle.std.proofs.lemmas.Bool.{true≢false}
 use Rattle.std.specs.List.{Contains}
 use Rattle.rdb_pages.specs.declared.cell.CellRef.{CellRef}
 use Rattle.rdb_cells.specs.HashFormat.{table_buckets}
-use Rattle.rdb_cells.specs.HeadFormat.{index_roots}
 use Rattle.rdb_cells.specs.Keys.{Sayings, Version}
 use Rattle.rdb_cells.specs.Links.{Node, Placed, segment}
 use Rattle.rdb_cells.proofs.ListedLemmas.{contains_either, contains_later}
@@ -79,8 +77,8 @@ module _ (said : Sayings) (bucket : ℕ) where
       let others = hashed_parts said (bucket_nodes t.buckets) (hash_nodes ts) parts.1 in
       let none : AreElsewhere said bucket (versions_of own) = λ q among. absurd (no_element q (subst (λ (rs : List CellRef). Contains rs q) (own_versions t.number (starts t.buckets)) among)) in
       let inside : AreElsewhere said bucket (versions_of (bucket_nodes t.buckets)) =
-          buckets_elsewhere t.buckets
-          (λ word b at. (bucket_number here.0 word, here.2 word (subst (λ (n : ℕ). word < n) here.1.count (got_within t.buckets word b at)), here.1.entries word b at)) others.0 in
+      buckets_elsewhere t.buckets
+      (λ word b at. (bucket_number here.0 word, here.2 word (subst (λ (n : ℕ). word < n) here.1.count (got_within t.buckets word b at)), here.1.entries word b at)) others.0 in
       together own (bucket_nodes t.buckets ++ hash_nodes ts) none
       (together (bucket_nodes t.buckets) (hash_nodes ts) inside (tables_elsewhere ts (λ i u at. each (suc i) u at) others.1)) r within
 

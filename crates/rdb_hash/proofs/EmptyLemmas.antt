@@ -1,5 +1,5 @@
 -- Cells of chains and of buckets: which kinds they have, and which buckets have no entry.
-use Rattle.std.proofs.Common.{◌≡◌, ◌≢◌, ◌==◌, ◌&&◌, ◌++◌, ℕ, zero, suc, List, [], ◌∷◌, map, get_or, drop, Bool, true, false, eq-eqb, Option, Some, IsSome, refl, sym, ap, subst, ◌∙◌, arith, rules}
+use Rattle.std.proofs.Common.{◌≡◌, ◌≢◌, ◌==◌, ◌&&◌, ◌++◌, ℕ, List, [], ◌∷◌, map, get_or, drop, Bool, true, false, eq-eqb, Option, IsSome, refl, sym, ap, subst, ◌∙◌, arith, rules}
 use Rattle.std.specs.List.{list_all}
 use borrow.Author.Tests.{eqb-true}
 use Rattle.rdb_pages.specs.declared.cell.Cell.{Cell}
@@ -7,7 +7,7 @@ use Rattle.rdb_pages.specs.declared.cell.CellRef.{CellRef}
 use Rattle.rdb_cells.specs.declared.kind.Kind.{Kind}
 use Rattle.rdb_cells.specs.declared.kind.Kind.TheVariants as kind
 use Rattle.rdb_cells.specs.Images.{Image, IsCell}
-use Rattle.rdb_cells.specs.Links.{IsAmong, Node, Placed, Stand, start, segment}
+use Rattle.rdb_cells.specs.Links.{Node, Placed, Stand, start, segment}
 use Rattle.rdb_cells.specs.Words.{HasKind}
 use Rattle.rdb_cells.proofs.LinkLemmas.{empty_chain, stand_parts, stand_together}
 use Rattle.rdb_cells.proofs.PlainLemmas.{one_kind}
@@ -80,3 +80,8 @@ table_stand image a stand =
     let right = (stand_parts IsWritten image (bucket_nodes a.right) (hash_nodes a.back) bucket.1).0 in
     subst (λ (xs : List (Node Held)). Stand IsWritten image xs) (sym (bucket_nodes_append a.left (a.bucket ∷ a.right)))
     (stand_together IsWritten image (bucket_nodes a.left) (segment a.bucket 0 ++ bucket_nodes a.right) left.0 (stand_together IsWritten image (segment a.bucket 0) (bucket_nodes a.right) bucket.0 right))
+
+-- where a chain begins doesn't rest on what stands behind its first entry
+pub same_begin : (front : List (Placed Held)) (p x : Placed Held) (back : List (Placed Held)) → start ((front ++ p ∷ []) ++ back) 0 ≡ start ((front ++ p ∷ []) ++ x ∷ back) 0
+same_begin [] p x back = refl
+same_begin (f ∷ fs) p x back = refl

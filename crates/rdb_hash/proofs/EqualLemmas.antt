@@ -1,17 +1,17 @@
 -- What a look-up finds: the versions with the key, by reference.
-use Rattle.std.proofs.Common.{◌≡◌, ◌≢◌, ◌<◌, ◌≤◌, ◌+◌, ◌⊎◌, ◌==◌, ◌++◌, zero, suc, ℕ, List, [], ◌∷◌, length, map, slice_get, slice_index, get_or, filter, sum_by, Option, Some, Bool, true, false, cond, inl, inr, refl, sym, ap, subst, ◌∙◌, arith, eq-eqb}
+use Rattle.std.proofs.Common.{◌≡◌, ◌<◌, ◌≤◌, ◌+◌, ◌⊎◌, ◌==◌, zero, suc, ℕ, List, [], ◌∷◌, length, map, slice_get, slice_index, get_or, filter, Bool, true, false, cond, inl, inr, refl, sym, ap, subst, ◌∙◌, arith, eq-eqb}
 use Rattle.std.proofs.lemmas.Bool.{ne_eqb}
 use Rattle.std.proofs.lemmas.List.{length-map}
 use Rattle.std.proofs.lemmas.List.Sums.{sum_by-cons}
-use Rattle.std.proofs.lemmas.List.Sorted.{IsPermutation-sym, sum_by-IsPermutation}
+use Rattle.std.proofs.lemmas.List.Sorted.{sum_by-IsPermutation}
 use Rattle.std.proofs.Permutation.{which}
-use Rattle.std.specs.List.{Contains, count_by}
+use Rattle.std.specs.List.{Contains}
 use Rattle.std.specs.List.Sorted.{IsNonDecreasingBy, IsStrictlyIncreasing}
 use Rattle.std.specs.Prelude.{IsPermutation}
 use Rattle.rdb_base.specs.declared.value.Value.{Value}
 use Rattle.rdb_pages.specs.declared.cell.CellRef.{CellRef}
 use Rattle.rdb_cells.specs.Images.{Image}
-use Rattle.rdb_cells.specs.Keys.{Meaning, Version, ForVersion, says, hash_by, times_listed, ListsVersions}
+use Rattle.rdb_cells.specs.Keys.{Meaning, ForVersion, says, hash_by, times_listed}
 use Rattle.rdb_cells.specs.Words.{no_ref}
 use Rattle.rdb_cells.proofs.ListedLemmas.{contains_later, contains_first}
 use Rattle.rdb_cells.specs.HashFormat.{table_buckets}
@@ -28,13 +28,13 @@ use Rattle.rdb_hash.proofs.ShapeLemmas.{table_of, tables_of, buckets_of, table_s
 use Rattle.rdb_hash.proofs.TableLemmas.{some_value}
 
 -- how often a reference is listed
-counts : (q r : CellRef) (rs : List CellRef) → times_listed (q ∷ rs) r ≡ cond (q.number == r.number) 1 0 + times_listed rs r
+pub counts : (q r : CellRef) (rs : List CellRef) → times_listed (q ∷ rs) r ≡ cond (q.number == r.number) 1 0 + times_listed rs r
 counts q r rs = sum_by-cons (λ (x : CellRef). cond (x.number == r.number) 1 0) q rs
 
-counts_it : (q r : CellRef) (rs : List CellRef) → q.number ≡ r.number → times_listed (q ∷ rs) r ≡ suc (times_listed rs r)
+pub counts_it : (q r : CellRef) (rs : List CellRef) → q.number ≡ r.number → times_listed (q ∷ rs) r ≡ suc (times_listed rs r)
 counts_it q r rs same = counts q r rs ∙ ap (λ (b : Bool). cond b 1 0 + times_listed rs r) (eq-eqb q.number r.number same) ∙ omega arith
 
-counts_more : (q r : CellRef) (rs : List CellRef) → times_listed rs r ≤ times_listed (q ∷ rs) r
+pub counts_more : (q r : CellRef) (rs : List CellRef) → times_listed rs r ≤ times_listed (q ∷ rs) r
 counts_more q r rs = let e = counts q r rs in omega arith
 
 listed_at : (rs : List CellRef) (i : ℕ) (r : CellRef) → i < length rs → (get_or rs i no_ref).number ≡ r.number → 1 ≤ times_listed rs r
@@ -169,9 +169,9 @@ has_entry head keys image version hash table place first listed nodes stands the
     let shaped = table_shaped image head at.a at.are in
     let small = subst (λ (n : ℕ). n < table_buckets) (sym at.place_is) place_small in
     let own_place : bucket_of (hash_by keys v.0.key) ≡ bucket_number (length at.a.front) (length at.a.left) =
-        ap bucket_of (sym (hash_is v.0 v.1)) ∙ sym number_is ∙ ap (λ (n : ℕ). bucket_number n place) (sym at.table_is) ∙ ap (λ (n : ℕ). bucket_number (length at.a.front) n) (sym at.place_is) in
+    ap bucket_of (sym (hash_is v.0 v.1)) ∙ sym number_is ∙ ap (λ (n : ℕ). bucket_number n place) (sym at.table_is) ∙ ap (λ (n : ℕ). bucket_number (length at.a.front) n) (sym at.place_is) in
     let begins_at = begins (tables_of at.a) at.a.bucket at.are
-        (table_of at.a, ap (slice_get (tables_of at.a)) (sym at.table_is) ∙ get_here at.a.front (table_of at.a) at.a.back, ap (slice_get (buckets_of at.a)) (sym at.place_is) ∙ get_here at.a.left at.a.bucket at.a.right) in
+    (table_of at.a, ap (slice_get (tables_of at.a)) (sym at.table_is) ∙ get_here at.a.front (table_of at.a) at.a.back, ap (slice_get (buckets_of at.a)) (sym at.place_is) ∙ get_here at.a.left at.a.bucket at.a.right) in
     record {
       bucket = bucket_number (length at.a.front) (length at.a.left);
       chain = at.a.bucket;

@@ -1,22 +1,22 @@
 -- What an index owes after a put and after a remove, from what became of its tables.
-use Rattle.std.proofs.Common.{◌≡◌, ◌≢◌, ◌≤◌, ◌+◌, ◌⊎◌, ◌++◌, ℕ, List, [], ◌∷◌, length, Some, inl, inr, refl, sym, ap, subst, ◌∙◌, arith}
-use Rattle.std.proofs.lemmas.List.Sorted.{IsPermutation-trans, IsPermutation-sym}
+use Rattle.std.proofs.Common.{◌≡◌, ◌≤◌, ◌⊎◌, ◌++◌, ℕ, List, [], ◌∷◌, length, Some, inl, inr, refl, sym, subst, ◌∙◌, arith}
+use Rattle.std.proofs.lemmas.List.Sorted.{IsPermutation-sym}
 use Rattle.std.specs.Prelude.{IsPermutation}
 use Rattle.rdb_pages.specs.declared.cell.CellRef.{CellRef}
 use Rattle.rdb_pages.specs.Pages.{zero_cell}
-use Rattle.rdb_cells.specs.Index.{IsOwn, ListsAnew, KeepsAccount}
+use Rattle.rdb_cells.specs.Index.{IsOwn, KeepsAccount}
 use Rattle.rdb_cells.specs.Keys.{Meaning, says, IsUnlisted, RestsOnVersions, ListsVersions}
 use Rattle.rdb_cells.specs.Links.{IsAmong, Placed, numbers, segment}
 use Rattle.rdb_cells.specs.Parts.{hash_part}
 use Rattle.rdb_cells.specs.PlainLaws.{lists_again}
-use Rattle.rdb_cells.specs.Work.{Work, reading, IsBlank, IsLeft, TakesAtMost, TakesLowest, TakesNone}
+use Rattle.rdb_cells.specs.Work.{Work, reading, IsBlank, IsLeft, TakesAtMost, TakesLowest}
 use Rattle.rdb_cells.proofs.IndexLemmas.{says_again, unlisted_again, node_not_left}
 use Rattle.rdb_cells.proofs.LinkLemmas.{among_or_not, among_either, among_back}
 use Rattle.rdb_cells.proofs.ListedLemmas.{lists_more, lists_less, lists_in_order}
 use Rattle.rdb_cells.proofs.WorkLemmas.{none_at_most, at_most_then, lowest_none, lowest_then, lowest_of}
 use Rattle.rdb_hash.specs.Changes.{IsPut, IsRemoved}
 use Rattle.rdb_hash.specs.HashLaws.{hash_has_index_cells, hashed_again}
-use Rattle.rdb_hash.specs.Shape.{Held, Entry, AreTables, AreHashed, IsHashed, IsHash, hash_nature, hash_nodes, versions_of}
+use Rattle.rdb_hash.specs.Shape.{Held, Entry, AreTables, AreHashed, IsHashed, IsHash, hash_nature, versions_of}
 use Rattle.rdb_hash.proofs.AroundLemmas.{IsAround, around_hash}
 use Rattle.rdb_hash.proofs.ChangeLemmas.{changed, entered, hashed_now, one_more}
 use Rattle.rdb_hash.proofs.EditLemmas.{Edits}

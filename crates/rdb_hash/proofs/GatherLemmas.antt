@@ -1,5 +1,5 @@
 -- The versions of one bucket that have a key.
-use Rattle.std.proofs.Common.{◌≡◌, ◌≢◌, ◌+◌, ◌++◌, zero, suc, ℕ, List, [], ◌∷◌, filter, Some, Bool, true, false, cond, refl, sym, ap, subst, ◌∙◌}
+use Rattle.std.proofs.Common.{◌≡◌, ◌≢◌, ◌+◌, ◌++◌, ℕ, List, [], ◌∷◌, filter, Some, Bool, true, false, cond, sym, ap, subst, ◌∙◌}
 use Rattle.std.proofs.lemmas.List.{append_assoc, append-nil}
 use Rattle.std.proofs.lemmas.List.Elements.{filter-append}
 use Rattle.rdb_base.specs.declared.value.Value.{Value}
@@ -9,7 +9,7 @@ use Rattle.rdb_cells.specs.declared.formats.hash.HashEntry.{HashEntry}
 use Rattle.rdb_cells.specs.HashFormat.{hash_entry_in}
 use Rattle.rdb_cells.specs.Images.{Image, IsCell}
 use Rattle.rdb_cells.specs.Keys.{Meaning, Sayings, says}
-use Rattle.rdb_cells.specs.Links.{Node, Placed, segment}
+use Rattle.rdb_cells.specs.Links.{Placed, segment}
 use Rattle.rdb_cells.specs.References.{last_page_cell}
 use Rattle.rdb_hash.specs.Lookup.{has_key}
 use Rattle.rdb_hash.specs.Shape.{Held, Entry, IsHashed, AreHashed, versions_of}

@@ -1,5 +1,5 @@
 -- Whether a version has a key.
-use Rattle.std.proofs.Common.{◌≡◌, ◌≢◌, ◌↔◌, ℕ, List, Option, Some, None, Bool, true, false, IsTrue, refl, sym, ap, subst, ◌∙◌}
+use Rattle.std.proofs.Common.{◌≡◌, ◌≢◌, ◌↔◌, List, Option, Some, Bool, true, false, IsTrue, refl, sym, ap, ◌∙◌}
 use Rattle.std.proofs.lemmas.Bool.{false≢true}
 use Rattle.std.specs.declared.cmp.Ordering.{Ordering}
 use Rattle.std.specs.declared.cmp.Ordering.TheVariants.{Less, Equal, Greater}
@@ -10,10 +10,9 @@ use Rattle.rdb_base.specs.Order.{row_order}
 use Rattle.rdb_base.proofs.OrderLemmas.{row_level}
 use Rattle.rdb_pages.specs.declared.cell.CellRef.{CellRef}
 use Rattle.rdb_cells.specs.Images.{Image}
-use Rattle.rdb_cells.specs.Keys.{Meaning, Version, hash_by, says}
+use Rattle.rdb_cells.specs.Keys.{Meaning, Version, hash_by}
 use Rattle.rdb_cells.proofs.KeyLemmas.{level_when_equal}
 use Rattle.rdb_hash.specs.Lookup.{has_key}
-use Rattle.rdb_hash.specs.Shape.{Entry, IsHashed}
 
 by_cases : (o : Ordering) (r : Bool) (P : Type 0) → (o ≡ Equal → P) → (P → o ≡ Equal) → (IsTrue r ↔ P) → r ≡ is_eq o
 by_cases Equal true P to back test = refl

@@ -1,5 +1,5 @@
 -- A listing, table by table and bucket by bucket.
-use Rattle.std.proofs.Common.{◌≡◌, ◌<◌, ◌≤◌, ◌+◌, ◌++◌, zero, suc, ℕ, List, [], ◌∷◌, length, take, slice_get, Some, refl, sym, ap, subst, ◌∙◌, arith, add-one}
+use Rattle.std.proofs.Common.{◌≡◌, ◌<◌, ◌+◌, ◌++◌, zero, suc, ℕ, List, [], ◌∷◌, length, take, slice_get, Some, refl, sym, ap, subst, ◌∙◌, arith}
 use Rattle.std.proofs.lemmas.List.{append_assoc, append-nil}
 use Rattle.std.proofs.lemmas.List.Sorted.{IsPermutation-refl}
 use Rattle.std.specs.Prelude.{IsPermutation}
@@ -7,10 +7,10 @@ use Rattle.rdb_pages.specs.declared.cell.CellRef.{CellRef}
 use Rattle.rdb_cells.specs.HashFormat.{table_buckets}
 use Rattle.rdb_cells.specs.HeadFormat.{index_roots}
 use Rattle.rdb_cells.specs.Images.{Image}
-use Rattle.rdb_cells.specs.Index.{IsListing, IsStanding}
-use Rattle.rdb_cells.specs.Links.{Node, Placed, segment, start}
+use Rattle.rdb_cells.specs.Index.{IsListing}
+use Rattle.rdb_cells.specs.Links.{Node, Placed, segment}
 use Rattle.rdb_hash.specs.Shape.{Held, Table, AreTables, hash_nature, bucket_number, own_node, starts, bucket_nodes, hash_nodes, versions_of}
-use Rattle.rdb_hash.specs.Walks.{HasTables, HasBucket, IsBucket, IsFirst, ListsTable, WhateverInBucket}
+use Rattle.rdb_hash.specs.Walks.{HasBucket, IsBucket, IsFirst, ListsTable, WhateverInBucket}
 use Rattle.rdb_hash.proofs.ListPlaces.{some_is, some_at, get_here}
 use Rattle.rdb_hash.proofs.ShapeLemmas.{Around, around, count_tables, is_bucket, table_of, tables_of, buckets_of, bucket_nodes_append, hash_nodes_append, versions_append, own_versions}
 
@@ -87,9 +87,9 @@ module _ (image : Image) (head : ℕ) where
       let front = take table tables in
       let own = own_node t.0.number (starts t.0.buckets) in
       let one : versions_of (hash_nodes (t.0 ∷ [])) ≡ versions_of (bucket_nodes t.0.buckets) =
-          versions_append own (bucket_nodes t.0.buckets ++ [])
-          ∙ ap (λ (rs : List CellRef). rs ++ versions_of (bucket_nodes t.0.buckets ++ [])) (own_versions t.0.number (starts t.0.buckets))
-          ∙ ap (λ (xs : List (Node Held)). versions_of xs) (append-nil (bucket_nodes t.0.buckets)) in
+      versions_append own (bucket_nodes t.0.buckets ++ [])
+      ∙ ap (λ (rs : List CellRef). rs ++ versions_of (bucket_nodes t.0.buckets ++ [])) (own_versions t.0.number (starts t.0.buckets))
+      ∙ ap (λ (xs : List (Node Held)). versions_of xs) (append-nil (bucket_nodes t.0.buckets)) in
       let next : table + 1 ≡ suc table = omega arith in
       lists tables t.0 are t.1
       ∙ ap (λ (rs : List CellRef). rs ++ versions_of (bucket_nodes t.0.buckets)) (so_far tables are)
@@ -103,8 +103,8 @@ module _ (image : Image) (head : ℕ) where
   all_listed class refs table all so_far said listed nodes hash =
       let count = count_tables image head hash.tables hash.stand.leads in
       let same : refs ≡ listed =
-          so_far hash.tables hash.stand
-          ∙ ap (λ (n : ℕ). versions_of (hash_nodes (take n hash.tables))) (all ∙ sym count)
-          ∙ ap (λ (ts : List Table). versions_of (hash_nodes ts)) (take_whole hash.tables)
-          ∙ sym hash.listed_is in
+      so_far hash.tables hash.stand
+      ∙ ap (λ (n : ℕ). versions_of (hash_nodes (take n hash.tables))) (all ∙ sym count)
+      ∙ ap (λ (ts : List Table). versions_of (hash_nodes ts)) (take_whole hash.tables)
+      ∙ sym hash.listed_is in
       subst (λ (rs : List CellRef). IsPermutation refs rs) same (IsPermutation-refl refs)

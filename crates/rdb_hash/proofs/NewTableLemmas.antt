@@ -1,5 +1,5 @@
 -- A put into a bucket whose table has no cell: the table and the entry in the cells that were taken, and the head.
-use Rattle.std.proofs.Common.{◌≡◌, ◌≢◌, ◌<◌, ◌≤◌, ◌+◌, ◌⊎◌, ◌++◌, ℕ, zero, suc, List, [], ◌∷◌, length, map, replicate, slice_get, slice_set, Some, inl, inr, refl, sym, ap, subst, ◌∙◌, arith}
+use Rattle.std.proofs.Common.{◌≡◌, ◌≢◌, ◌<◌, ◌⊎◌, ◌++◌, ℕ, zero, suc, List, [], ◌∷◌, length, map, replicate, slice_get, slice_set, Some, inl, inr, refl, sym, ap, subst, ◌∙◌, arith}
 use Rattle.rdb_pages.specs.declared.cell.Cell.{Cell}
 use Rattle.rdb_pages.specs.declared.cell.CellRef.{CellRef}
 use Rattle.rdb_cells.specs.declared.kind.Kind.TheVariants as kind
@@ -16,7 +16,7 @@ use Rattle.rdb_cells.specs.Work.{Work, reading, IsBlank, IsLeft, TakesAtMost, Ta
 use Rattle.rdb_cells.proofs.WorkLemmas.{put_work, take_work, put_reads, left_blank, take_one, taken_spent, lowest_take, lowest_then, at_most_then}
 use Rattle.rdb_cells.proofs.LinkLemmas.{apart_beside}
 use Rattle.rdb_hash.specs.Changes.{HasRoot, IsPutHashed}
-use Rattle.rdb_hash.specs.Shape.{Held, Entry, Table, IsHash, AreTables, IsWritten, IsTableCell, bucket_of, bucket_number, hash_nature, hash_nodes, own_node, starts, bucket_nodes}
+use Rattle.rdb_hash.specs.Shape.{Held, Entry, Table, IsHash, AreTables, IsWritten, bucket_of, bucket_number, hash_nature, hash_nodes, own_node, starts, bucket_nodes}
 use Rattle.rdb_hash.specs.Walks.{HasTables}
 use Rattle.rdb_hash.proofs.AroundLemmas.{IsAround, hash_around}
 use Rattle.rdb_hash.proofs.ChangeLemmas.{own_cells, own_among, own_only, by_own, by_bucket, transfer, entered, some_nodes, shaped_now}
@@ -25,7 +25,7 @@ use Rattle.rdb_hash.proofs.FinishLemmas.{Comes, is_put}
 use Rattle.rdb_hash.proofs.FrameLemmas.{frame, entry_comes, table_comes}
 use Rattle.rdb_hash.proofs.ListPlaces.{get_here, set_mapped, map_set}
 use Rattle.rdb_hash.proofs.PutLemmas.{entry_written, head_no_node}
-use Rattle.rdb_hash.proofs.ShapeLemmas.{Around, buckets_of, table_of, tables_of, behind, nodes_of, nodes_are, table_shaped, entries_here, apart_around, paged_around}
+use Rattle.rdb_hash.proofs.ShapeLemmas.{buckets_of, table_of, tables_of, behind, nodes_of, nodes_are, table_shaped, entries_here, apart_around, paged_around}
 use Rattle.rdb_hash.proofs.TableLemmas.{root_there, first_of_none, none_both, none_begins, same_cell}
 
 -- buckets without an entry begin nowhere

@@ -1,12 +1,11 @@
 -- A put into a bucket of a table that stands: the entry in the cell that was taken, and the table.
-use Rattle.std.proofs.Common.{◌≡◌, ◌≢◌, ◌<◌, ◌≤◌, ◌+◌, ◌⊎◌, ◌++◌, ℕ, List, [], ◌∷◌, length, map, slice_get, slice_set, Some, inl, inr, refl, sym, ap, subst, ◌∙◌, arith}
+use Rattle.std.proofs.Common.{◌≡◌, ◌≢◌, ◌<◌, ◌+◌, ◌⊎◌, ◌++◌, ℕ, List, [], ◌∷◌, length, map, slice_get, slice_set, Some, inl, inr, refl, sym, ap, subst, ◌∙◌, arith}
 use Rattle.rdb_pages.specs.declared.cell.Cell.{Cell}
 use Rattle.rdb_pages.specs.declared.cell.CellRef.{CellRef}
-use Rattle.rdb_pages.specs.Pages.{zero_cell}
 use Rattle.rdb_cells.specs.declared.formats.hash.HashEntry.{HashEntry as EntryValue}
 use Rattle.rdb_cells.specs.declared.kind.Kind.TheVariants as kind
 use Rattle.rdb_cells.specs.HashFormat.{table_in, hash_entry_in, table_buckets}
-use Rattle.rdb_cells.specs.HeadFormat.{index_head_in, index_roots}
+use Rattle.rdb_cells.specs.HeadFormat.{index_roots}
 use Rattle.rdb_cells.specs.Images.{Image, Writes}
 use Rattle.rdb_cells.specs.Keys.{Meaning, says}
 use Rattle.rdb_cells.specs.Links.{IsAmong, Node, Placed, Stand, StandApart, numbers, start, segment}
@@ -20,15 +19,15 @@ use Rattle.rdb_cells.proofs.LinkLemmas.{node_of}
 use Rattle.rdb_cells.proofs.PlainLemmas.{one_kind}
 use Rattle.rdb_cells.proofs.WorkLemmas.{put_work, take_work, put_reads, left_blank, take_one, taken_spent, lowest_take}
 use Rattle.rdb_hash.specs.Changes.{HasRoot, IsPutHashed}
-use Rattle.rdb_hash.specs.Shape.{Held, Buckets, Entry, Table, IsHash, IsTable, AreTables, LeadsTo, IsWritten, IsTableCell, bucket_of, bucket_number, hash_nature, hash_nodes, own_node, starts, bucket_nodes}
+use Rattle.rdb_hash.specs.Shape.{Held, Buckets, Entry, Table, IsHash, IsTable, AreTables, IsWritten, bucket_of, bucket_number, hash_nature, hash_nodes, own_node, starts, bucket_nodes}
 use Rattle.rdb_hash.specs.Walks.{HasTables}
 use Rattle.rdb_hash.proofs.AroundLemmas.{IsAround, hash_around}
-use Rattle.rdb_hash.proofs.ChangeLemmas.{own_cells, cells_of, own_among, by_own, by_bucket, transfer, changed, entered, some_nodes, shaped_now}
+use Rattle.rdb_hash.proofs.ChangeLemmas.{own_among, by_own, by_bucket, transfer, entered, some_nodes, shaped_now}
 use Rattle.rdb_hash.proofs.EditLemmas.{Edits, no_edits, edit_more, bare_table, bare_entry, none_of_kind, none_where_free, apart_from_free, never_left}
 use Rattle.rdb_hash.proofs.FinishLemmas.{Comes, is_put}
 use Rattle.rdb_hash.proofs.FrameLemmas.{frame, entry_comes, table_leads}
 use Rattle.rdb_hash.proofs.ListPlaces.{get_here, some_at, set_mapped, map_set, same_mapped}
-use Rattle.rdb_hash.proofs.ShapeLemmas.{Around, buckets_of, table_of, tables_of, behind, nodes_of, nodes_are, count_tables, table_shaped, entries_here, apart_around, paged_around}
+use Rattle.rdb_hash.proofs.ShapeLemmas.{buckets_of, table_of, tables_of, behind, nodes_of, nodes_are, count_tables, table_shaped, entries_here, apart_around, paged_around}
 use Rattle.rdb_hash.proofs.TableLemmas.{root_there, first_of_table, table_there, table_read}
 
 -- the entry's cell

@@ -1,40 +1,37 @@
 -- A version's entry goes: from behind another one, from the front of its bucket, or as the last of its table.
-use Rattle.std.proofs.Common.{◌≡◌, ◌≢◌, ◌<◌, ◌≤◌, ◌+◌, ◌⊎◌, ◌↔◌, ◌++◌, ℕ, zero, suc, List, [], ◌∷◌, length, map, slice_get, slice_set, get_or, drop, ◌==◌, ◌&&◌, Bool, true, false, eq-eqb, Option, Some, IsSome, inl, inr, refl, sym, ap, subst, ◌∙◌, ◌^◌, arith, rules}
+use Rattle.std.proofs.Common.{◌≡◌, ◌≢◌, ◌<◌, ◌⊎◌, ◌++◌, ℕ, List, [], ◌∷◌, length, map, slice_get, slice_set, ◌==◌, true, false, Some, inl, inr, refl, sym, ap, subst, ◌∙◌, ◌^◌, arith}
 use Rattle.std.proofs.lemmas.List.{append_assoc}
 use Rattle.std.specs.List.{list_all}
-use borrow.Author.Tests.{eqb-true}
 use Rattle.rdb_pages.specs.declared.cell.Cell.{Cell}
 use Rattle.rdb_pages.specs.declared.cell.CellRef.{CellRef}
 use Rattle.rdb_pages.specs.Pages.{zero_cell}
 use Rattle.rdb_cells.specs.declared.formats.hash.HashEntry.{HashEntry as EntryValue}
-use Rattle.rdb_cells.specs.declared.kind.Kind.{Kind}
 use Rattle.rdb_cells.specs.declared.kind.Kind.TheVariants as kind
 use Rattle.rdb_cells.specs.HashFormat.{table_in, hash_entry_in, table_buckets}
 use Rattle.rdb_cells.specs.HeadFormat.{index_head_in, index_roots}
-use Rattle.rdb_cells.specs.Images.{Image, IsCell, Writes}
+use Rattle.rdb_cells.specs.Images.{IsCell, Writes}
 use Rattle.rdb_cells.specs.Keys.{Meaning, says}
-use Rattle.rdb_cells.specs.Links.{IsAmong, AreOnce, Node, Placed, Stand, StandApart, IsHeld, numbers, start, segment}
+use Rattle.rdb_cells.specs.Links.{IsAmong, AreOnce, Node, Placed, StandApart, numbers, start, segment}
 use Rattle.rdb_cells.specs.References.{IsPageCell}
 use Rattle.rdb_cells.specs.Words.{IsOfKind, HasKind, no_ref}
-use Rattle.rdb_cells.specs.Work.{Work, reading, IsBlank}
+use Rattle.rdb_cells.specs.Work.{Work, reading}
 use Rattle.rdb_cells.proofs.ChainLemmas.{same_chain}
-use Rattle.rdb_cells.proofs.LinkLemmas.{among_but, among_past, among_back, once_without, segment_append, apart_beside, empty_chain, stand_parts, stand_together}
-use Rattle.rdb_cells.proofs.PlainLemmas.{one_kind}
+use Rattle.rdb_cells.proofs.LinkLemmas.{among_but, among_past, among_back, once_without, segment_append, apart_beside}
 use Rattle.rdb_cells.proofs.WorkLemmas.{put_work, put_reads}
 use Rattle.rdb_hash.specs.declared.chain.Found.{Found}
-use Rattle.rdb_hash.specs.Changes.{HasRoot, IsIn, IsRemoved, IsRemovedByAny}
-use Rattle.rdb_hash.specs.Shape.{Held, Entry, Table, IsHash, AreTables, IsTable, AreEntriesOf, IsWritten, IsEntryCell, IsTableCell, bucket_number, hash_nature, hash_nodes, own_node, starts, bucket_nodes}
-use Rattle.rdb_hash.specs.Walks.{HasTables, IsBucket, IsAt, IsLast}
-use Rattle.rdb_hash.proofs.AroundLemmas.{IsAround, hash_around}
+use Rattle.rdb_hash.specs.Changes.{IsIn, IsRemovedByAny}
+use Rattle.rdb_hash.specs.Shape.{Held, Entry, Table, IsHash, AreTables, IsTable, AreEntriesOf, IsWritten, IsTableCell, bucket_number, hash_nature, hash_nodes, own_node, starts, bucket_nodes}
+use Rattle.rdb_hash.specs.Walks.{HasTables, IsBucket}
+use Rattle.rdb_hash.proofs.AroundLemmas.{hash_around}
 use Rattle.rdb_hash.proofs.ChangeLemmas.{own_cells, cells_of, own_among, own_only, numbers_segment, by_own, by_bucket, transfer, changed, some_nodes, shaped_now}
-use Rattle.rdb_hash.proofs.EmptyLemmas.{cells_append, entry_no_table, entry_no_head, kind_there, chain_kind, all_none, not_all_none, table_stand}
+use Rattle.rdb_hash.proofs.EmptyLemmas.{cells_append, same_begin, entry_no_table, entry_no_head, kind_there, chain_kind, all_none, not_all_none, table_stand}
 use Rattle.rdb_hash.proofs.EditLemmas.{Edits, no_edits, edit_more, bare_table, bare_entry, bare_head, bare_zero, none_of_kind, apart_from_free, never_left}
 use Rattle.rdb_hash.proofs.FinishLemmas.{Goes, is_removed}
 use Rattle.rdb_hash.proofs.FrameLemmas.{frame, entry_goes, entry_leads, table_leads, table_goes}
 use Rattle.rdb_hash.proofs.ListPlaces.{get_here, set_mapped, map_set, same_mapped}
 use Rattle.rdb_hash.proofs.PutLemmas.{head_no_table, head_no_node}
-use Rattle.rdb_hash.proofs.ShapeLemmas.{Around, around, bucket_nodes_append, functional, buckets_of, table_of, tables_of, behind, nodes_of, nodes_are, table_shaped, entries_here, apart_around, paged_around, is_bucket}
-use Rattle.rdb_hash.proofs.TableLemmas.{start_small, is_there, root_there, table_read, none_both, none_begins, same_cell}
+use Rattle.rdb_hash.proofs.ShapeLemmas.{Around, around, functional, buckets_of, table_of, tables_of, behind, nodes_of, nodes_are, table_shaped, entries_here, apart_around, paged_around, is_bucket}
+use Rattle.rdb_hash.proofs.TableLemmas.{start_small, is_there, root_there, table_read, same_cell}
 use Rattle.rdb_hash.proofs.WalkLemmas.{held_there, entry_there, written_there, entries_parts, entries_together}
 
 -- the entry that was found, in any listing
@@ -117,9 +114,9 @@ module _ (class : ℕ) (head version : CellRef) (table word : ℕ) (w : Work) (f
         let own = own_node a.number (starts (buckets_of a)) in
         let node : Node Held = record { number = found.at.number; element = Entry version is_in.at.hash; links = start back 0 ∷ [] } in
         let split : segment a.bucket 0 ++ behind a ≡ segment front found.at.number ++ node ∷ (segment back 0 ++ behind a) =
-            ap (λ (b : List (Placed Held)). segment b 0 ++ behind a) chain_is
-            ∙ ap (λ (xs : List (Node Held)). xs ++ behind a) (segment_append front (entry ∷ back) 0)
-            ∙ append_assoc (segment front found.at.number) (node ∷ segment back 0) (behind a) in
+        ap (λ (b : List (Placed Held)). segment b 0 ++ behind a) chain_is
+        ∙ ap (λ (xs : List (Node Held)). xs ++ behind a) (segment_append front (entry ∷ back) 0)
+        ∙ append_assoc (segment front found.at.number) (node ∷ segment back 0) (behind a) in
         entry_goes (hash_nodes a.front) (bucket_nodes a.left) own (segment front found.at.number) node (segment back 0 ++ behind a) (reading w) (reading gone_1) found.at.number zero_cell wrote_1 refl
         (subst (λ (xs : List (Node Held)). StandApart IsWritten (reading w) (frame (hash_nodes a.front) own (bucket_nodes a.left) xs)) split (apart_around (reading w) head.number a are))
 
@@ -187,14 +184,10 @@ module _ (class : ℕ) (head version : CellRef) (table word : ℕ) (w : Work) (f
       edits_behind = edit_more w gone_1 (found.at.number ∷ []) edits_1 found.before led (none_of_kind (reading w) kind.HashEntry found.before.number before_kind bare_entry) (never_left w kind.HashEntry found.before.number before_kind (λ e. absurd (omega arith))) (bare_entry led led_kind)
 
       module _ (a : Around) (are : AreTables (reading w) head.number (tables_of a)) (table_is : length a.front ≡ table) (place_is : length a.left ≡ word) where
-        starts_same : (gs : List (Placed Held)) (q : Placed Held) → start ((gs ++ q ∷ []) ++ back) 0 ≡ start ((gs ++ q ∷ []) ++ entry ∷ back) 0
-        starts_same [] q = refl
-        starts_same (g ∷ gs) q = refl
-
         links_same : starts (buckets_of a) ≡ starts (buckets_of (changed a a.number (front ++ back)))
         links_same =
             sym (same_mapped (λ (c : List (Placed Held)). start c 0) a.left a.bucket (front ++ back) a.right
-            (ap (λ (xs : List (Placed Held)). start (xs ++ back) 0) previous.2 ∙ starts_same previous.0 previous.1
+            (ap (λ (xs : List (Placed Held)). start (xs ++ back) 0) previous.2 ∙ same_begin previous.0 previous.1 entry back
             ∙ sym (ap (λ (c : List (Placed Held)). start c 0) (chain_is a are table_is place_is ∙ ap (λ (xs : List (Placed Held)). xs ++ entry ∷ back) previous.2))))
 
         some_left : (gs : List (Placed Held)) (q : Placed Held) → bucket_nodes (a.left ++ ((gs ++ q ∷ []) ++ back) ∷ a.right) ≢ []
@@ -219,15 +212,15 @@ module _ (class : ℕ) (head version : CellRef) (table word : ℕ) (w : Work) (f
             let x : Node Held = record { number = previous.1.number; element = previous.1.element; links = found.at.number ∷ [] } in
             let y : Node Held = record { number = previous.1.number; element = previous.1.element; links = start back 0 ∷ [] } in
             let split : segment front found.at.number ++ rest ≡ segment previous.0 previous.1.number ++ x ∷ rest =
-                ap (λ (xs : List (Placed Held)). segment xs found.at.number ++ rest) previous.2
-                ∙ ap (λ (xs : List (Node Held)). xs ++ rest) (segment_append previous.0 (previous.1 ∷ []) found.at.number)
-                ∙ append_assoc (segment previous.0 previous.1.number) (x ∷ []) rest in
+            ap (λ (xs : List (Placed Held)). segment xs found.at.number ++ rest) previous.2
+            ∙ ap (λ (xs : List (Node Held)). xs ++ rest) (segment_append previous.0 (previous.1 ∷ []) found.at.number)
+            ∙ append_assoc (segment previous.0 previous.1.number) (x ∷ []) rest in
             let joined : segment previous.0 previous.1.number ++ y ∷ rest ≡ segment (front ++ back) 0 ++ behind a =
-                sym (append_assoc (segment previous.0 previous.1.number) (y ∷ segment back 0) (behind a))
-                ∙ ap (λ (xs : List (Node Held)). xs ++ behind a) (sym (segment_append previous.0 (previous.1 ∷ back) 0))
-                ∙ ap (λ (xs : List (Placed Held)). segment xs 0 ++ behind a) (sym (ap (λ (xs : List (Placed Held)). xs ++ back) previous.2 ∙ append_assoc previous.0 (previous.1 ∷ []) back)) in
+            sym (append_assoc (segment previous.0 previous.1.number) (y ∷ segment back 0) (behind a))
+            ∙ ap (λ (xs : List (Node Held)). xs ++ behind a) (sym (segment_append previous.0 (previous.1 ∷ back) 0))
+            ∙ ap (λ (xs : List (Placed Held)). segment xs 0 ++ behind a) (sym (ap (λ (xs : List (Placed Held)). xs ++ back) previous.2 ∙ append_assoc previous.0 (previous.1 ∷ []) back)) in
             let led_apart = entry_leads (hash_nodes a.front) (bucket_nodes a.left) own (segment previous.0 previous.1.number) x rest (reading gone_1) (reading gone_behind) found.before.number led wrote_2 y (sym previous.3) (sym previous.3) written_now
-                (subst (λ (xs : List (Node Held)). StandApart IsWritten (reading gone_1) (frame (hash_nodes a.front) own (bucket_nodes a.left) xs)) split (apart_1 a are table_is place_is)) in
+            (subst (λ (xs : List (Node Held)). StandApart IsWritten (reading gone_1) (frame (hash_nodes a.front) own (bucket_nodes a.left) xs)) split (apart_1 a are table_is place_is)) in
             subst (λ (links : List ℕ). StandApart IsWritten (reading gone_behind) (frame (hash_nodes a.front) (own_node a.number links) (bucket_nodes a.left) (segment (front ++ back) 0 ++ behind a))) links_same
             (subst (λ (xs : List (Node Held)). StandApart IsWritten (reading gone_behind) (frame (hash_nodes a.front) own (bucket_nodes a.left) xs)) joined led_apart)
 
@@ -341,8 +334,8 @@ module _ (class : ℕ) (head version : CellRef) (table word : ℕ) (w : Work) (f
         apart_front =
             let own = own_node a.number (starts (buckets_of a)) in
             let joined : segment front found.at.number ++ (segment back 0 ++ behind a) ≡ segment (front ++ back) 0 ++ behind a =
-                ap (λ (xs : List (Placed Held)). segment xs found.at.number ++ (segment back 0 ++ behind a)) front_none
-                ∙ ap (λ (xs : List (Placed Held)). segment (xs ++ back) 0 ++ behind a) (sym front_none) in
+            ap (λ (xs : List (Placed Held)). segment xs found.at.number ++ (segment back 0 ++ behind a)) front_none
+            ∙ ap (λ (xs : List (Placed Held)). segment (xs ++ back) 0 ++ behind a) (sym front_none) in
             subst (λ (xs : List (Node Held)). StandApart IsWritten (reading gone_1) (frame (hash_nodes a.front) own (bucket_nodes a.left) xs)) joined (apart_1 a are table_is place_is)
 
       -- a table that keeps entries
@@ -471,8 +464,8 @@ module _ (class : ℕ) (head version : CellRef) (table word : ℕ) (w : Work) (f
         goes_last keys listed nodes stands =
             let t = hash_around head.number (says keys (reading w)) (reading w) listed nodes table word stands table_small word_small in
             let entry_now : reading gone_last found.at.number ≡ Some zero_cell =
-                wrote_head.elsewhere found.at.number (entry_no_head (reading w) found.at.number head.number entry_kind head_kind)
-                ∙ wrote_zero.elsewhere found.at.number (entry_no_table (reading w) found.at.number root.number entry_kind root_kind) ∙ wrote_1.here in
+            wrote_head.elsewhere found.at.number (entry_no_head (reading w) found.at.number head.number entry_kind head_kind)
+            ∙ wrote_zero.elsewhere found.at.number (entry_no_table (reading w) found.at.number root.number entry_kind root_kind) ∙ wrote_1.here in
             let table_now : reading gone_last root.number ≡ Some zero_cell = wrote_head.elsewhere root.number (head_no_table (reading w) head.number root.number head_kind root_kind) ∙ wrote_zero.here in
             record {
               at = t;

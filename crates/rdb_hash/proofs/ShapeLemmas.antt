@@ -1,9 +1,7 @@
 -- The nodes of a hash index, and those around one bucket.
-use Rattle.std.proofs.Common.{◌≡◌, ◌≢◌, ◌<◌, ◌≤◌, ◌+◌, ◌⊎◌, ◌++◌, zero, suc, ℕ, List, [], ◌∷◌, length, map, slice_get, Option, Some, IsSome, inl, inr, refl, sym, ap, ap₂, subst, ◌∙◌, arith, rules}
+use Rattle.std.proofs.Common.{◌≡◌, ◌<◌, ◌++◌, zero, suc, ℕ, List, [], ◌∷◌, length, refl, sym, ap, ap₂, subst, ◌∙◌, arith}
 use Rattle.std.proofs.lemmas.List.{append_assoc, length-map}
-use Rattle.rdb_pages.specs.declared.cell.Cell.{Cell}
 use Rattle.rdb_pages.specs.declared.cell.CellRef.{CellRef}
-use Rattle.rdb_pages.specs.Pages.{zero_cell}
 use Rattle.rdb_cells.specs.HashFormat.{table_buckets}
 use Rattle.rdb_cells.specs.HeadFormat.{index_roots}
 use Rattle.rdb_cells.specs.Images.{Image}
@@ -151,8 +149,7 @@ around image head tables table place are t_small p_small =
     let t = some_at tables table (subst (λ (n : ℕ). table < n) (sym count) t_small) in
     let b = some_at t.0.buckets place (subst (λ (n : ℕ). place < n) (sym (are.shaped table t.0 t.1).count) p_small) in
     let tables_split = split_place tables table t.0 t.1 in
-    let buckets_split = split_place t.0.buckets place b.0 b.1 in
-    (
+    let buckets_split = split_place t.0.buckets place b.0 b.1 in (
       record { front = tables_split.0; number = t.0.number; left = buckets_split.0; bucket = b.0; right = buckets_split.1; back = tables_split.1 },
       tables_split.2 ∙ ap (λ (bs : List (List (Placed Held))). tables_split.0 ++ (let u : Table = record { number = t.0.number; buckets = bs } in u) ∷ tables_split.1) buckets_split.2,
       tables_split.3,

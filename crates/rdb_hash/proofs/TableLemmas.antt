@@ -8,11 +8,11 @@ use Rattle.rdb_cells.specs.HashFormat.{table_in, table_buckets}
 use Rattle.rdb_cells.specs.HeadFormat.{index_head_in, index_roots}
 use Rattle.rdb_cells.specs.Images.{Image, IsCell}
 use Rattle.rdb_cells.specs.Keys.{Meaning, ForVersion, says, hash_by}
-use Rattle.rdb_cells.specs.Links.{IsAmong, Node, Placed, Stand, numbers, start, segment}
+use Rattle.rdb_cells.specs.Links.{IsAmong, Placed, Stand, numbers, start, segment}
 use Rattle.rdb_cells.specs.References.{IsPageCell}
 use Rattle.rdb_cells.proofs.LinkLemmas.{stand_parts}
-use Rattle.rdb_hash.specs.Shape.{Held, Entry, IsHashed, Table, IsWritten, IsTableCell, LeadsTo, AreTables, own_node, starts, bucket_nodes, hash_nodes}
-use Rattle.rdb_hash.specs.Walks.{HasTables, IsFirst, IsBucketAt}
+use Rattle.rdb_hash.specs.Shape.{Held, Entry, IsHashed, Table, IsWritten, IsTableCell, AreTables, own_node, starts, bucket_nodes, hash_nodes}
+use Rattle.rdb_hash.specs.Walks.{HasTables, IsFirst}
 use Rattle.rdb_hash.proofs.ListPlaces.{some_is, some_at, get_here}
 use Rattle.rdb_hash.proofs.ShapeLemmas.{tables_of, table_of, buckets_of, around, is_bucket, count_tables}
 
@@ -104,7 +104,7 @@ first_small image head table place first has table_small place_small begins =
     let are = subst (λ (ts : List Table). AreTables image head ts) found.1 has.1 in
     let b = is_bucket image head found.0 are in
     let starts_at = begins (tables_of found.0) found.0.bucket are
-        (table_of found.0, ap (slice_get (tables_of found.0)) (sym found.2) ∙ get_here found.0.front (table_of found.0) found.0.back, ap (slice_get (buckets_of found.0)) (sym found.3) ∙ get_here found.0.left found.0.bucket found.0.right) in
+    (table_of found.0, ap (slice_get (tables_of found.0)) (sym found.2) ∙ get_here found.0.front (table_of found.0) found.0.back, ap (slice_get (buckets_of found.0)) (sym found.3) ∙ get_here found.0.left found.0.bucket found.0.right) in
     subst (λ (n : ℕ). n < 2 ^ 24) (sym starts_at) (start_small found.0.bucket b.paged)
 
 -- a version with a key, and its hash

@@ -1,20 +1,18 @@
 -- Walks along the entries of one bucket.
-use Rattle.std.proofs.Common.{◌≡◌, ◌≢◌, ◌<◌, ◌≤◌, ◌+◌, ◌⊎◌, ◌++◌, zero, suc, ℕ, List, [], ◌∷◌, length, length-append, get_or, Option, Some, IsSome, inl, inr, refl, sym, ap, ap₂, subst, ◌∙◌, arith, rules}
+use Rattle.std.proofs.Common.{◌≡◌, ◌≢◌, ◌<◌, ◌≤◌, ◌+◌, ◌++◌, suc, ℕ, List, [], ◌∷◌, length, length-append, get_or, Option, Some, IsSome, inl, inr, refl, sym, ap, ap₂, subst, ◌∙◌, arith, rules}
 use Rattle.std.proofs.lemmas.List.{append_assoc, append-nil}
 use Rattle.std.specs.List.{Contains}
 use Rattle.std.specs.Option.{option_map_or}
 use Rattle.rdb_pages.specs.declared.cell.Cell.{Cell}
 use Rattle.rdb_pages.specs.declared.cell.CellRef.{CellRef}
-use Rattle.rdb_pages.specs.Pages.{zero_cell}
 use Rattle.rdb_cells.specs.HashFormat.{hash_entry_in}
 use Rattle.rdb_cells.specs.Images.{Image, IsCell}
-use Rattle.rdb_cells.specs.Links.{IsAmong, Node, IsNeverZero, IsFunctional, IsHeld, Stand, StandApart, numbers, Placed, start, segment, IsChain}
-use Rattle.rdb_cells.specs.References.{IsPageCell, last_page_cell}
-use Rattle.rdb_cells.specs.Words.{kind_number}
+use Rattle.rdb_cells.specs.Links.{IsAmong, Node, IsHeld, Stand, numbers, Placed, start, segment}
+use Rattle.rdb_cells.specs.References.{last_page_cell}
 use Rattle.rdb_cells.proofs.LinkLemmas.{few_below, one_chain, empty_chain, length_segment, stand_parts, segment_append}
 use Rattle.rdb_cells.proofs.ListedLemmas.{contains_either}
 use Rattle.rdb_hash.specs.declared.chain.Found.{Found}
-use Rattle.rdb_hash.specs.Shape.{Held, Buckets, Entry, IsWritten, IsEntryCell, IsTableCell, IsEntryOf, AreEntriesOf, versions_of, version_in}
+use Rattle.rdb_hash.specs.Shape.{Held, Buckets, Entry, IsWritten, IsEntryCell, IsEntryOf, AreEntriesOf, versions_of, version_in}
 use Rattle.rdb_hash.proofs.ShapeLemmas.{functional}
 use Rattle.rdb_hash.specs.Walks.{IsBucket, HasBucket, HasEntry, IsLast, IsAt, WhateverInBucket}
 
@@ -212,8 +210,8 @@ module _ (image : Image) (first : ℕ) (version : CellRef) (before count at : �
     sought_found same found is_before is_at is_next =
         let walk = so_far.walk in
         let here_is : (next image first count at walk some_left).0 ≡ record { number = found.at.number; element = Entry version (hash_entry_in cell).hash } =
-            ap₂ (λ (n : ℕ) (e : Held). (let p : Placed Held = record { number = n; element = e } in p)) (sym (stands_at image first count at walk some_left) ∙ sym is_at)
-            (element_here image first count at walk some_left cell here ∙ ap (λ (r : CellRef). Entry r (hash_entry_in cell).hash) same) in
+        ap₂ (λ (n : ℕ) (e : Held). (let p : Placed Held = record { number = n; element = e } in p)) (sym (stands_at image first count at walk some_left) ∙ sym is_at)
+        (element_here image first count at walk some_left cell here ∙ ap (λ (r : CellRef). Entry r (hash_entry_in cell).hash) same) in
         record {
           bucket = walk.bucket;
           hash = (hash_entry_in cell).hash;
@@ -230,7 +228,7 @@ module _ (image : Image) (first : ℕ) (version : CellRef) (before count at : �
         let walk = so_far.walk in
         let left = next image first count at walk some_left in
         let split : versions_of (segment walk.rest 0) ≡ (hash_entry_in cell).version ∷ versions_of (segment left.1 0) =
-            ap (λ (c : List (Placed Held)). versions_of (segment c 0)) left.2 ∙ ap (λ (e : Held). version_in e ++ versions_of (segment left.1 0)) (element_here image first count at walk some_left cell here) in
+        ap (λ (c : List (Placed Held)). versions_of (segment c 0)) left.2 ∙ ap (λ (e : Held). version_in e ++ versions_of (segment left.1 0)) (element_here image first count at walk some_left cell here) in
         record {
           walk = walk_more image first count at walk some_left cell here;
           behind = inr (walk.seen, left.0, refl, stands_at image first count at walk some_left);

@@ -1,5 +1,5 @@
 -- A hash index has at most two nodes for each version that it lists. No tactic stands here.
-use Rattle.std.specs.Prelude.{◌≡◌, ◌≤◌, ◌+◌, ◌*◌, ◌++◌, ℕ, zero, suc, List, [], ◌∷◌, length, slice_get, Some, refl}
+use Rattle.std.specs.Prelude.{◌≡◌, ◌≤◌, ◌*◌, ◌++◌, ℕ, zero, suc, List, [], ◌∷◌, length, slice_get, Some, refl}
 use mathlib.Core.Path.{sym, ap, subst, ◌∙◌}
 use native.Mathlib.Nat.{le_trans, le-suc, suc-add, add-suc, suc-ne-zero, two-mul}
 use Prim.Native.Nat.{suc-le-suc, zero-le}
@@ -22,7 +22,7 @@ AreEntryNodes (x ∷ xs) = IsEntryNode x.element × AreEntryNodes xs
 two_more : (few many : ℕ) → few ≤ 2 * many → suc (suc few) ≤ 2 * suc many
 two_more few many least =
     let twice : suc (suc (2 * many)) ≡ 2 * suc many =
-        ap (λ (n : ℕ). suc (suc n)) (two-mul many) ∙ ap suc (sym (add-suc many many)) ∙ sym (suc-add many (suc many)) ∙ sym (two-mul (suc many)) in
+    ap (λ (n : ℕ). suc (suc n)) (two-mul many) ∙ ap suc (sym (add-suc many many)) ∙ sym (suc-add many (suc many)) ∙ sym (two-mul (suc many)) in
     subst (λ (n : ℕ). suc (suc few) ≤ n) twice (suc-le-suc (suc-le-suc least))
 
 one_version : (e : Held) → IsEntryNode e → (rs : List CellRef) → length (version_in e ++ rs) ≡ suc (length rs)

@@ -1,5 +1,5 @@
 -- A hash index meets the laws of an index. No tactic stands here.
-use Rattle.std.specs.Prelude.{◌≡◌, ◌≤◌, ◌*◌, ℕ, zero, suc, List, [], ◌∷◌, ◌++◌, length, replicate, slice_get, Option, Some, None, IsSome, is_some, Contains, refl}
+use Rattle.std.specs.Prelude.{◌≡◌, ◌≤◌, ◌*◌, ℕ, zero, suc, List, [], ◌∷◌, ◌++◌, length, replicate, slice_get, Some, is_some, Contains, refl}
 use Rattle.std.specs.Option.{option_map_or}
 use mathlib.Core.Bool.{false≢true}
 use mathlib.Core.Logic.{inl, inr}
@@ -12,13 +12,12 @@ use Rattle.rdb_cells.specs.HashFormat.{table_buckets}
 use Rattle.rdb_cells.specs.HeadFormat.{index_head_cell, empty_index_head, index_roots}
 use Rattle.rdb_cells.specs.Images.{Image}
 use Rattle.rdb_cells.specs.Index.{IsIndexNode, StartsEmpty, ListsOnce, HasIndexCells, HasFewNodes, RestsOnNodes}
-use Rattle.rdb_cells.specs.Keys.{Sayings, Version, SaySame}
-use Rattle.rdb_cells.specs.Links.{IsAmong, AreOnce, SameOn, Node, IsHeld, Placed, numbers}
+use Rattle.rdb_cells.specs.Keys.{Sayings, SaySame}
+use Rattle.rdb_cells.specs.Links.{IsAmong, AreOnce, SameOn, Node, IsHeld, numbers}
 use Rattle.rdb_cells.specs.LinkLaws.{still_apart, node_of}
 use Rattle.rdb_cells.specs.PlainLaws.{lists_again}
-use Rattle.rdb_cells.specs.Words.{HasKind}
 use Rattle.rdb_hash.specs.FewNodes.{few_nodes}
-use Rattle.rdb_hash.specs.Shape.{Held, Buckets, Entry, Table, no_table, IsWritten, AreEntriesOf, IsHashed, AreHashed, IsTable, IsHash, bucket_number, versions_of, version_in, hash_nodes, hash_nature}
+use Rattle.rdb_hash.specs.Shape.{Held, Buckets, Entry, no_table, IsWritten, AreEntriesOf, IsHashed, AreHashed, IsTable, bucket_number, versions_of, version_in, hash_nodes, hash_nature}
 
 -- each element of a list of one thing is that
 one_thing : {X : Type 0} (count : ℕ) (x : X) (place : ℕ) (y : X) → slice_get (replicate count x) place ≡ Some y → x ≡ y

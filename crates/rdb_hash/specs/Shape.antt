@@ -1,5 +1,5 @@
 -- The shape of a hash index in cells: tables of buckets, and a chain of entries in each bucket.
-use Rattle.std.specs.Prelude.{◌≡◌, ◌↔◌, ◌+◌, ◌*◌, ◌%◌, ◌++◌, zero, suc, ℕ, List, [], ◌∷◌, length, map, replicate, slice_get, Some, Contains}
+use Rattle.std.specs.Prelude.{◌≡◌, ◌↔◌, ◌+◌, ◌*◌, ◌%◌, ◌++◌, zero, suc, ℕ, List, [], ◌∷◌, length, map, replicate, slice_get, Some}
 use Rattle.rdb_pages.specs.declared.cell.Cell.{Cell}
 use Rattle.rdb_pages.specs.declared.cell.CellRef.{CellRef}
 use Rattle.rdb_cells.specs.declared.kind.Kind.TheVariants as kind

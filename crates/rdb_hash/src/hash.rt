@@ -54,12 +54,7 @@ impl Hash {
     /// Returns the listed versions whose key is the key, each once, by reference. It looks at one bucket: the cost grows
     /// with the number of its entries, which is that of all versions divided by 225 where the hashes spread evenly. The only
     /// error is want of memory.
-    pub fn equal<C: Cells, K: Keys>(
-        &self,
-        cells: &C,
-        keys: &K,
-        key: &Row,
-    ) -> Result<Refs, NoMemory>
+    pub fn equal<C: Cells, K: Keys>(&self, cells: &C, keys: &K, key: &Row) -> Result<Refs, NoMemory>
         requires stands { StandsBy (hash_nature self.now.class self.now.head.number) (K.meaning keys.now) (C.image cells.now) }
         requires key { (K.meaning keys.now).fits key.now ≡ true }
         ensures { IfOk result (IsFound (hash_nature self.now.class self.now.head.number) (K.meaning keys.now) (C.image cells.now) key.now) }
@@ -87,12 +82,7 @@ impl Hash {
     }
 
     /// Appends the versions of a table, bucket by bucket.
-    fn list_table<C: Cells>(
-        &self,
-        cells: &C,
-        table: usize,
-        refs: &mut Refs,
-    ) -> Result<(), NoMemory>
+    fn list_table<C: Cells>(&self, cells: &C, table: usize, refs: &mut Refs) -> Result<(), NoMemory>
         requires tables { HasTables (C.image cells.now) self.now.head.number }
         requires table { table < index_roots }
         ensures { OnOk result (ListsTable (C.image cells.now) self.now.head.number table refs.old refs.new) }
@@ -267,7 +257,7 @@ impl Index for Hash {
         }
     }
 
-    /// The cost grows with the number of entries.
+    /// The cost grows with the number of entries, beside a look at each of the 225 buckets.
     fn refs<C: Cells>(&self, cells: &C) -> Result<Refs, NoMemory> {
         let mut refs = List::new(self.alloc);
         for table in 0..INDEX_ROOTS {

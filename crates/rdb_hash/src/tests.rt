@@ -1,13 +1,14 @@
 //! A hash index over cells in memory, with keys that are all one text.
-ghost use Rattle.std.specs.Prelude.{◌≡◌, ◌+◌, ◌<◌, ◌≤◌, ◌↔◌, IsTrue, Some, true, length};
+ghost use Rattle.std.specs.Prelude.{◌≡◌, ◌+◌, ◌<◌, ◌≤◌, ◌↔◌, [], ◌∷◌, IsTrue, Some, true, length};
 ghost use Rattle.rdb_cells.specs.HeadFormat.{index_head_cell, empty_index_head};
 ghost use Rattle.rdb_cells.specs.Images.{IsFree};
 ghost use Rattle.rdb_cells.specs.Index.{LacksVersion};
+ghost use Rattle.rdb_cells.specs.Keys.{says, ListsVersions};
 ghost use Rattle.rdb_cells.specs.Memory.{memory_image, memory_class};
 ghost use Rattle.rdb_cells.specs.Parts.{hash_part};
 ghost use Rattle.rdb_cells.specs.Words.{IsOfKind};
 ghost use Rattle.rdb_cells.specs.Work.{work, reading, HasLeft};
-ghost use Rattle.rdb_hash.specs.Shape.{hash_nature};
+ghost use Rattle.rdb_hash.specs.Shape.{hash_nature, IsHash};
 
 use crate::hash::Hash;
 use rdb_base::identity::Stamp;
@@ -43,7 +44,8 @@ fn put_and_ask<C: Cells, K: Keys>(
     version: CellRef,
 ) -> Answers
     requires class { cells.old.class ≡ hash.now.class }
-    requires lacks { LacksVersion (hash_nature hash.now.class hash.now.head.number) (K.meaning keys.now) (reading (work C.Cells cells.old)) version }
+    requires lacks { LacksVersion (hash_nature hash.now.class hash.now.head.number) (K.meaning keys.now)
+        (reading (work C.Cells cells.old)) version }
     requires places { length cells.old.plan.pairs + 50 ≤ cells.old.plan.room }
     requires free { HasLeft (work C.Cells cells.old) hash_part }
     requires key { (K.meaning keys.now).fits key.now ≡ true }
@@ -65,13 +67,48 @@ fn put_and_remove<C: Cells, K: Keys>(
     version: CellRef,
 ) -> Result<Refs, NoMemory>
     requires class { cells.old.class ≡ hash.now.class }
-    requires lacks { LacksVersion (hash_nature hash.now.class hash.now.head.number) (K.meaning keys.now) (reading (work C.Cells cells.old)) version }
+    requires lacks { LacksVersion (hash_nature hash.now.class hash.now.head.number) (K.meaning keys.now)
+        (reading (work C.Cells cells.old)) version }
     requires places { length cells.old.plan.pairs + 100 ≤ cells.old.plan.room }
     requires free { HasLeft (work C.Cells cells.old) hash_part }
 {
     hash.put(cells, keys, version);
     hash.remove(cells, keys, version);
     hash.refs(&*cells)
+}
+
+/// What an index gives by the key of two versions, and what it lists without the first.
+#[derive(Drop)]
+struct Two {
+    found: Result<Refs, NoMemory>,
+    left: Result<Refs, NoMemory>,
+}
+
+/// Puts two versions into an empty index, asks for their key, and takes the first away.
+fn put_two<C: Cells, K: Keys>(
+    hash: &Hash,
+    cells: &mut Overlay<C>,
+    keys: &K,
+    key: &Row,
+    first: CellRef,
+    second: CellRef,
+) -> Two
+    requires class { cells.old.class ≡ hash.now.class }
+    requires empty { IsHash hash.now.head.number (says (K.meaning keys.now) (reading (work C.Cells cells.old)))
+        (reading (work C.Cells cells.old)) [] [] }
+    requires versions { ListsVersions (says (K.meaning keys.now) (reading (work C.Cells cells.old))) (second ∷ first ∷ []) }
+    requires places { length cells.old.plan.pairs + 150 ≤ cells.old.plan.room }
+    requires free { HasLeft (work C.Cells cells.old) 4 }
+    requires key { (K.meaning keys.now).fits key.now ≡ true }
+{
+    hash.put(cells, keys, first);
+    hash.put(cells, keys, second);
+    let found = hash.equal(&*cells, keys, key);
+    hash.remove(cells, keys, first);
+    Two {
+        found,
+        left: hash.refs(&*cells),
+    }
 }
 
 fn is_empty_head(cell: &Cell) -> bool
@@ -156,26 +193,56 @@ fn emptied(
     Ok((refs?, plan))
 }
 
+/// Asks an empty index after two puts, and lists it without the first.
+fn asked_for_two(
+    rt: &impl Abort,
+    cells: &MemoryCells,
+    hash: &Hash,
+    keys: &OneKey,
+    first: CellRef,
+    second: CellRef,
+) -> Result<Two, NoMemory> {
+    empty_head_at(rt, cells, hash.head);
+    let one = header_at(rt, cells, first);
+    let other = header_at(rt, cells, second);
+    assert!(rt; first.number != second.number, "one version twice");
+    assert!(rt;
+        VersionHeader::id_in(one) != VersionHeader::id_in(other),
+        "two versions of one id"
+    );
+    let lowest = free_above(rt, cells, hash.class, NONE);
+    let lower = free_above(rt, cells, hash.class, lowest);
+    let upper = free_above(rt, cells, hash.class, lower);
+    let _highest = free_above(rt, cells, hash.class, upper);
+    let plan = Plan::reserve(hash.alloc, 150)?;
+    let mut overlay = Overlay::over(cells, plan, hash.class);
+    let two = put_two(hash, &mut overlay, keys, &keys.key, first, second);
+    let _plan = overlay.plan();
+    Ok(two)
+}
+
 fn key_of(alloc: Global, text: &str) -> Result<Row, NoMemory> {
     let mut key = List::new(alloc);
     key.push(Value::Leaf(Leaf::Text(Text::of(alloc, text)?)))?;
     Ok(key)
 }
 
-/// Returns cells with a page of class 0, the heads of two of its indexes, and a version in cell 1.
-fn cells_with_version(rt: &impl Abort, alloc: Global) -> Result<MemoryCells, NoMemory> {
+/// Returns cells with a page of class 0, the heads of two of its indexes, and versions in cells 1 and 2.
+fn cells_with_versions(rt: &impl Abort, alloc: Global) -> Result<MemoryCells, NoMemory> {
     let mut cells = MemoryCells::new(alloc, &[0], 3)?;
-    let header = VersionHeader {
-        older: NONE,
-        class: 0,
-        tombstone: false,
-        id: 7,
-        first_row: NONE,
-        row_length: 0,
-        stamp: Stamp::Done(1),
-        serial: 1,
-    };
-    set(rt, &mut cells, CellRef { number: 1 }, header.to_cell());
+    for (number, id) in [(1, 7), (2, 8)] {
+        let header = VersionHeader {
+            older: NONE,
+            class: 0,
+            tombstone: false,
+            id,
+            first_row: NONE,
+            row_length: 0,
+            stamp: Stamp::Done(1),
+            serial: id,
+        };
+        set(rt, &mut cells, CellRef { number }, header.to_cell());
+    }
     set(
         rt,
         &mut cells,
@@ -191,7 +258,7 @@ fn number_of_first(refs: &Refs) -> Option<u32> {
 
 #[test]
 fn a_version_is_found_by_its_key_alone(rt: HostRuntime) -> Result<(), Fail> {
-    let cells = cells_with_version(&rt, rt.alloc())?;
+    let cells = cells_with_versions(&rt, rt.alloc())?;
     let hash = Hash::of(rt.alloc(), 0, 1);
     let keys = OneKey {
         key: key_of(rt.alloc(), "oak")?,
@@ -204,8 +271,12 @@ fn a_version_is_found_by_its_key_alone(rt: HostRuntime) -> Result<(), Fail> {
     assert_eq!(rt; number_of_first(&answers.all?), Some(1));
     // the hash of no bytes, 2166136261, belongs to bucket 61: the second of the fifth table
     assert_eq!(rt; plan.len(), 3);
-    for (number, word, content) in [(2, 1, 1), (2, 2, 2_166_136_261), (3, 2, 2), (2_000_002, 5, 3)]
-    {
+    for (number, word, content) in [
+        (3, 1, 1),
+        (3, 2, 2_166_136_261),
+        (4, 2, 3),
+        (2_000_002, 5, 4),
+    ] {
         let found = plan.get(CellRef { number }).map(|cell| cell.words[word]);
         assert_eq!(rt; found, Some(content), "cell {number}");
     }
@@ -214,12 +285,35 @@ fn a_version_is_found_by_its_key_alone(rt: HostRuntime) -> Result<(), Fail> {
 
 #[test]
 fn a_version_that_goes_leaves_no_cell(rt: HostRuntime) -> Result<(), Fail> {
-    let cells = cells_with_version(&rt, rt.alloc())?;
+    let cells = cells_with_versions(&rt, rt.alloc())?;
     let hash = Hash::of(rt.alloc(), 0, 1);
     let keys = OneKey {
         key: key_of(rt.alloc(), "oak")?,
     };
     let (refs, plan) = emptied(&rt, &cells, &hash, &keys, CellRef { number: 1 })?;
     assert_eq!(rt; (refs.len(), plan.len()), (0, 0));
+    Ok(())
+}
+
+#[test]
+fn two_versions_of_a_key_come_by_reference(rt: HostRuntime) -> Result<(), Fail> {
+    let cells = cells_with_versions(&rt, rt.alloc())?;
+    let hash = Hash::of(rt.alloc(), 0, 1);
+    let keys = OneKey {
+        key: key_of(rt.alloc(), "oak")?,
+    };
+    let two = asked_for_two(
+        &rt,
+        &cells,
+        &hash,
+        &keys,
+        CellRef { number: 1 },
+        CellRef { number: 2 },
+    )?;
+    // the second stands first in its bucket
+    let found = two.found?;
+    assert_eq!(rt; (found.len(), number_of_first(&found)), (2, Some(1)));
+    let left = two.left?;
+    assert_eq!(rt; (left.len(), number_of_first(&left)), (1, Some(2)));
     Ok(())
 }

@@ -1,5 +1,5 @@
 -- A version is added: to an object that is there, or with a slot for a new one.
-use Rattle.std.proofs.Common.{◌≡◌, ◌≢◌, ◌<◌, ◌≤◌, ◌+◌, ◌^◌, ◌⊎◌, ◌↔◌, zero, suc, ℕ, List, [], ◌∷◌, length, slice_get, Option, Some, IsSome, inl, inr, refl, sym, ap, subst, ◌∙◌, arith, rules}
+use Rattle.std.proofs.Common.{◌≡◌, ◌≢◌, ◌<◌, ◌+◌, ◌^◌, ◌⊎◌, ◌↔◌, zero, suc, ℕ, List, [], ◌∷◌, slice_get, Option, Some, IsSome, inl, inr, refl, sym, ap, subst, ◌∙◌, arith, rules}
 use Rattle.std.proofs.Permutation.{which}
 use Rattle.std.specs.Option.{option_map_or}
 use Rattle.std.specs.Prelude.{replicate}
@@ -11,24 +11,24 @@ use Rattle.rdb_cells.specs.declared.kind.Kind.TheVariants as kind
 use Rattle.rdb_cells.specs.Images.{Image, IsCell, Writes, AreBounded}
 use Rattle.rdb_cells.specs.Index.{KeepsAccount}
 use Rattle.rdb_cells.specs.Keys.{SameVersionCells, HasNoVersionCell}
-use Rattle.rdb_cells.specs.Links.{IsAmong, AreOnce}
+use Rattle.rdb_cells.specs.Links.{IsAmong}
 use Rattle.rdb_cells.specs.ObjectFormat.{IsSlot, slot_in}
 use Rattle.rdb_cells.specs.Records.{content}
 use Rattle.rdb_cells.specs.References.{class_head_ref}
 use Rattle.rdb_cells.specs.Untaken.{IsNextUntaken}
-use Rattle.rdb_cells.specs.Words.{number_of, IsOfKind, HasKind, no_ref}
+use Rattle.rdb_cells.specs.Words.{IsOfKind, no_ref}
 use Rattle.rdb_cells.specs.Work.{Work, reading, IsBlank, IsLeft, HasLeft, TakesAtMost, TakesNone}
 use Rattle.rdb_cells.proofs.IndexLemmas.{fewer_left}
 use Rattle.rdb_cells.proofs.VersionCellLemmas.{no_version, others_written}
 use Rattle.rdb_cells.proofs.WorkLemmas.{put_work, take_work, put_reads, put_says, left_blank, put_takes_none, none_then, none_at_most, at_most_then, take_one, taken_spent, lowest_take, lowest_none, lowest_then, put_longer}
 use Rattle.rdb_objects.specs.declared.tree.Spot.{Spot}
-use Rattle.rdb_objects.specs.Changes.{CanAdd, HoldsAnew, AddsVersion, PlansOnlySlots}
+use Rattle.rdb_objects.specs.Changes.{CanAdd, HoldsAnew, AddsVersion}
 use Rattle.rdb_objects.specs.Objects.{Object, newest_of, versions_of, with_version}
-use Rattle.rdb_objects.specs.Slots.{Path, Slot, ending, cells_of, IsOneOf, HasSlot, Leads, IsVersion, AreVersions, AreSlots, HoldVersions, AreObjectsOf, HoldsObjects}
+use Rattle.rdb_objects.specs.Slots.{Path, Slot, cells_of, IsOneOf, IsVersion, AreVersions, AreSlots, HoldVersions, AreObjectsOf, HoldsObjects}
 use Rattle.rdb_objects.specs.Walks.{IsSpot, IsLink, IsFound, HasNone, WhateverSlots}
 use Rattle.rdb_objects.proofs.TreeLemmas.{same_cell, in_cells, slot_in_cell, Picked, pick}
 use Rattle.rdb_objects.proofs.TreeChanges.{upper_of}
-use Rattle.rdb_objects.proofs.TreeSteps.{head_no_slot, free_no_slot, free_no_head, slot_came, slot_changed}
+use Rattle.rdb_objects.proofs.TreeSteps.{free_no_slot, free_no_head, slot_came, slot_changed}
 use Rattle.rdb_objects.proofs.ObjectLemmas.{none_found, found_slot, found_versions, with_here, with_other, once_with, have_with, objects_changed}
 
 -- Headers stay where the cells of rows and headers do
@@ -234,16 +234,19 @@ module _ (class : ℕ) (w : Work) (spot : Spot) (id : ℕ) (version place pair_a
     }
 
     anew : (now_cells : List ℕ) × HoldsAnew w add_2 class (with_version objects id version) cells now_cells
-    anew = (place.number ∷ cells, record {
-      holds = record {
-        slots = new ∷ holds.slots;
-        tree = tree_now;
-        versions = hold_now;
-        objects_are = objects_now;
-        cells_are = ap (λ (ns : List ℕ). place.number ∷ ns) holds.cells_are;
-      };
-      account = account_now;
-    })
+    anew = (
+      place.number ∷ cells,
+      record {
+        holds = record {
+          slots = new ∷ holds.slots;
+          tree = tree_now;
+          versions = hold_now;
+          objects_are = objects_now;
+          cells_are = ap (λ (ns : List ℕ). place.number ∷ ns) holds.cells_are;
+        };
+        account = account_now;
+      },
+    )
 
     own_now : (n : ℕ) → (content add_2.pairs n ≡ content w.pairs n) ⊎ (n ≡ (class_head_ref class).number) ⊎ IsAmong cells n ⊎ IsLeft w n
     own_now n = elim (put_says add_1 pair_at pair_cell n) [
@@ -330,7 +333,7 @@ module _ (class : ℕ) (w : Work) (spot : Spot) (id : ℕ) (version : CellRef) (
         let stands = can.holds.tree.each can_slot.0 can_slot.1 in
         let cell_is = same_cell (reading w) can_slot.0.number stands.cell old stands.here (ap (reading w) can_slot.3 ∙ was) in
         let mine : newest_of (versions_of can.objects id) ≡ newest_of it.0.versions =
-            ap (λ (vs : List CellRef). newest_of vs) can_versions ∙ sym stands.newest ∙ ap (λ (c : Cell). (slot_in c).newest) (cell_is ∙ sym its_cell) ∙ (holds.tree.each it.0 it.1).newest in
+        ap (λ (vs : List CellRef). newest_of vs) can_versions ∙ sym stands.newest ∙ ap (λ (c : Cell). (slot_in c).newest) (cell_is ∙ sym its_cell) ∙ (holds.tree.each it.0 it.1).newest in
         subst (λ (r : CellRef). IsVersion (reading w) id version r) mine can.header
 
     hold_more : HoldVersions (reading more_1) (now ∷ picked.others)
@@ -341,8 +344,10 @@ module _ (class : ℕ) (w : Work) (spot : Spot) (id : ℕ) (version : CellRef) (
       where
         some_version : ¬ (version ∷ it.0.versions ≡ [])
         some_version e = cc
+
         first : IsVersion (reading more_1) it.0.id version (newest_of it.0.versions)
         first = version_again (reading w) (reading more_1) versions_stay it.0.id version (newest_of it.0.versions) (subst (λ (k : ℕ). IsVersion (reading w) k version (newest_of it.0.versions)) (sym it.4) leads_on)
+
         rest : AreVersions (reading more_1) it.0.id it.0.versions
         rest = versions_again (reading w) (reading more_1) versions_stay it.0.id it.0.versions (holds.versions it.0 it.1).1
 
@@ -403,10 +408,13 @@ module _ (class : ℕ) (w : Work) (spot : Spot) (id : ℕ) (version : CellRef) (
     ]
 
     anew_more : (now_cells : List ℕ) × HoldsAnew w more_1 class (with_version objects id version) cells now_cells
-    anew_more = (cells_of (now ∷ picked.others), record {
-      holds = record { slots = now ∷ picked.others; tree = tree_more; versions = hold_more; objects_are = objects_more; cells_are = refl };
-      account = account_more;
-    })
+    anew_more = (
+      cells_of (now ∷ picked.others),
+      record {
+        holds = record { slots = now ∷ picked.others; tree = tree_more; versions = hold_more; objects_are = objects_more; cells_are = refl };
+        account = account_more;
+      },
+    )
 
   pub adds_more : AddsVersion class w more_1 id version
   adds_more = record {

@@ -1,21 +1,17 @@
 -- The chain of an object's versions: that it is one, how long it is, walks along it, and what writes leave of it.
-use Rattle.std.proofs.Common.{◌≡◌, ◌≢◌, ◌<◌, ◌≤◌, ◌+◌, ◌⊎◌, ◌++◌, zero, suc, ℕ, List, [], ◌∷◌, length, length-append, map, Option, Some, IsSome, inl, inr, refl, sym, ap, ap₂, subst, ◌∙◌, arith, rules}
-use Rattle.std.proofs.Permutation.{which}
+use Rattle.std.proofs.Common.{◌≡◌, ◌≢◌, ◌<◌, ◌≤◌, ◌+◌, ◌++◌, suc, ℕ, List, [], ◌∷◌, length, length-append, map, Option, Some, IsSome, inl, inr, refl, sym, ap, ap₂, subst, ◌∙◌, arith, rules}
 use Rattle.std.proofs.lemmas.Bool.{eq-eqb, ne_eqb}
 use Rattle.std.proofs.lemmas.List.{append_assoc}
 use Rattle.std.specs.List.{Contains}
-use Rattle.std.specs.Option.{option_map_or}
 use Rattle.rdb_pages.specs.declared.cell.Cell.{Cell}
 use Rattle.rdb_pages.specs.declared.cell.CellRef.{CellRef}
-use Rattle.rdb_cells.specs.declared.kind.Kind.TheVariants as kind
 use Rattle.rdb_cells.specs.Images.{Image, IsCell, AreBounded}
 use Rattle.rdb_cells.specs.Links.{IsAmong, AreOnce}
 use Rattle.rdb_cells.specs.References.{last_head}
 use Rattle.rdb_cells.specs.VersionFormat.{header_in}
-use Rattle.rdb_cells.specs.Words.{IsOfKind, no_ref}
 use Rattle.rdb_cells.proofs.LinkLemmas.{few_below}
 use Rattle.rdb_cells.proofs.ListedLemmas.{contains_either}
-use Rattle.rdb_objects.specs.Chains.{AreFrom, IsBehind, IsNewer}
+use Rattle.rdb_objects.specs.Chains.{IsBehind, IsNewer}
 use Rattle.rdb_objects.specs.Objects.{newest_of, without}
 use Rattle.rdb_objects.specs.Slots.{IsVersion, AreVersions}
 use Rattle.rdb_objects.proofs.TreeLemmas.{same_cell}
@@ -29,8 +25,7 @@ ref_is r s same = λ i. record { number = same i }
 -- a header says one thing
 pub one_header : (image : Image) (a b : ℕ) (v w older next : CellRef) → IsVersion image a v older → IsVersion image b w next → v.number ≡ w.number → (a ≡ b) × (older ≡ next)
 one_header image a b v w older next first second same =
-    let cell = same_cell image w.number first.cell second.cell (ap image (sym same) ∙ first.here) second.here in
-    (
+    let cell = same_cell image w.number first.cell second.cell (ap image (sym same) ∙ first.here) second.here in (
       sym first.of_object ∙ ap (λ (c : Cell). (header_in c).id) cell ∙ second.of_object,
       sym first.leads ∙ ap (λ (c : Cell). (header_in c).older) cell ∙ second.leads,
     )
@@ -177,11 +172,13 @@ without_there (u ∷ front) v back beside =
 pub once_front : (front : List CellRef) (v : CellRef) (back : List CellRef) → AreOnce (numbers (front ++ v ∷ back)) → (¬ IsAmong (numbers front) v.number) × (¬ IsAmong (numbers back) v.number)
 once_front [] v back once = (λ none. none, once.0)
 once_front (u ∷ front) v back once =
-    let rest = once_front front v back once.1 in
-    (λ within. elim within [
-      | inl same ↦ once.0 (subst (λ (n : ℕ). IsAmong (numbers (front ++ v ∷ back)) n) (sym same) (in_middle front v back))
-      | inr later ↦ rest.0 later
-    ], rest.1)
+    let rest = once_front front v back once.1 in (
+      λ within. elim within [
+        | inl same ↦ once.0 (subst (λ (n : ℕ). IsAmong (numbers (front ++ v ∷ back)) n) (sym same) (in_middle front v back))
+        | inr later ↦ rest.0 later
+      ],
+      rest.1,
+    )
   where
     in_middle : (front : List CellRef) (v : CellRef) (back : List CellRef) → IsAmong (numbers (front ++ v ∷ back)) v.number
     in_middle [] v back = inl refl

@@ -1,14 +1,14 @@
 -- What objects in cells rest on, and that a version is of one object.
-use Rattle.std.proofs.Common.{◌≡◌, ◌≢◌, ◌<◌, ◌⊎◌, zero, suc, ℕ, List, [], ◌∷◌, Option, Some, inl, inr, refl, sym, ap, subst, ◌∙◌, arith}
+use Rattle.std.proofs.Common.{◌≡◌, ℕ, List, [], ◌∷◌, inl, inr, refl, sym, ap, subst, ◌∙◌}
 use Rattle.std.specs.List.{Contains}
 use Rattle.rdb_pages.specs.declared.cell.CellRef.{CellRef}
 use Rattle.rdb_cells.specs.HeadFormat.{class_head_cell, empty_class_head}
 use Rattle.rdb_cells.specs.Images.{Image}
 use Rattle.rdb_cells.specs.Links.{IsAmong}
 use Rattle.rdb_cells.proofs.ListedLemmas.{contains_first, contains_later}
-use Rattle.rdb_objects.specs.Changes.{RestsOnObjects, SameLinks, LeavesObjects, StartsEmpty, OfOneObject}
+use Rattle.rdb_objects.specs.Changes.{RestsOnObjects, LeavesObjects, StartsEmpty, OfOneObject}
 use Rattle.rdb_objects.specs.Objects.{Object, newest_of, versions_of}
-use Rattle.rdb_objects.specs.Slots.{Slot, cells_of, IsOneOf, IsVersion, AreVersions, HoldsObjects}
+use Rattle.rdb_objects.specs.Slots.{IsVersion, AreVersions, HoldsObjects}
 use Rattle.rdb_objects.proofs.ChainLemmas.{one_header, chain_member, contained}
 use Rattle.rdb_objects.proofs.Removing.{header_not_free}
 use Rattle.rdb_objects.proofs.TreeLemmas.{in_cells, slot_in_cell}

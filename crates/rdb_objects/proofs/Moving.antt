@@ -1,33 +1,30 @@
 -- The last version of an object is removed whose slot has children: a leaf's object moves up into the slot, and the leaf goes.
-use Rattle.std.proofs.Common.{◌≡◌, ◌≢◌, ◌<◌, ◌≤◌, ◌+◌, ◌^◌, ◌⊎◌, ◌++◌, zero, suc, ℕ, List, [], ◌∷◌, length, length-append, map, Option, Some, inl, inr, refl, sym, ap, subst, ◌∙◌, arith}
+use Rattle.std.proofs.Common.{◌≡◌, ◌≢◌, ◌⊎◌, ◌++◌, ℕ, List, [], ◌∷◌, map, Some, inl, inr, refl, sym, ap, subst, ◌∙◌, arith}
 use Rattle.std.proofs.Permutation.{which}
 use Rattle.rdb_pages.specs.declared.cell.Cell.{Cell}
 use Rattle.rdb_pages.specs.declared.cell.CellRef.{CellRef}
 use Rattle.rdb_pages.specs.Pages.{zero_cell}
 use Rattle.rdb_cells.specs.declared.formats.object.ObjectSlot.{ObjectSlot}
 use Rattle.rdb_cells.specs.declared.kind.Kind.TheVariants as kind
-use Rattle.rdb_cells.specs.Images.{Image, Writes}
+use Rattle.rdb_cells.specs.Images.{Writes}
 use Rattle.rdb_cells.specs.Keys.{SameVersionCells, HasNoVersionCell}
 use Rattle.rdb_cells.specs.Links.{IsAmong, AreOf}
 use Rattle.rdb_cells.specs.ObjectFormat.{IsSlot, slot_in}
 use Rattle.rdb_cells.specs.Records.{content}
 use Rattle.rdb_cells.specs.References.{class_head_ref}
 use Rattle.rdb_cells.specs.Words.{IsOfKind, no_ref}
-use Rattle.rdb_cells.specs.Work.{Work, reading, IsBlank, IsLeft, TakesNone}
+use Rattle.rdb_cells.specs.Work.{Work, reading, IsLeft, TakesNone}
 use Rattle.rdb_cells.proofs.VersionCellLemmas.{others_written}
 use Rattle.rdb_cells.proofs.WorkLemmas.{put_work, put_reads, put_says, left_blank, put_takes_none, none_then, put_longer}
 use Rattle.rdb_objects.specs.declared.tree.Spot.{Spot}
 use Rattle.rdb_objects.specs.Changes.{HasLast, HoldsAnew, RemovesVersion}
-use Rattle.rdb_objects.specs.Objects.{Object, newest_of, versions_of, without, without_version}
-use Rattle.rdb_objects.specs.Slots.{Path, Slot, ending, cells_of, IsOneOf, IsVersion, AreVersions, AreSlots, HoldVersions, HoldsObjects}
+use Rattle.rdb_objects.specs.Objects.{Object, versions_of, without_version}
+use Rattle.rdb_objects.specs.Slots.{Path, Slot, ending, cells_of, IsOneOf, AreVersions, AreSlots, HoldVersions, HoldsObjects}
 use Rattle.rdb_objects.specs.Walks.{IsSpot, IsLink, IsFound, IsLeafBelow, IsLeadingToLeaf, WhateverSlots}
 use Rattle.rdb_objects.proofs.Adding.{versions_again, slot_none, object_none, free_none, link_at, link_none, link_cell_none, link_not_free}
-use Rattle.rdb_objects.proofs.ChainLemmas.{without_there}
-use Rattle.rdb_objects.proofs.ObjectLemmas.{found_slot, found_versions, none_found}
-use Rattle.rdb_objects.proofs.OneTree.{same_versions}
 use Rattle.rdb_objects.proofs.RemovingSlots.{link_apart, own_slot, own_spot, own_header, none_left}
-use Rattle.rdb_objects.proofs.Removing.{own_cells, all_cells, keeps_all, removed, header_no_head, header_no_slot}
-use Rattle.rdb_objects.proofs.TreeLemmas.{same_cell, in_cells, slot_in_cell, one_cell, Picked, pick, led_slot, ending_append}
+use Rattle.rdb_objects.proofs.Removing.{own_cells, all_cells, keeps_all, removed}
+use Rattle.rdb_objects.proofs.TreeLemmas.{same_cell, in_cells, Picked, pick, led_slot, ending_append}
 use Rattle.rdb_objects.proofs.TreeSteps.{head_no_slot, free_no_slot, tree_beside, slot_went, slot_changed}
 
 module _ (class : ℕ) (w : Work) (spot leaf : Spot) (id : ℕ) (version pair_at : CellRef) (pair_cell leaf_cell old cell : Cell)
@@ -115,7 +112,7 @@ module _ (class : ℕ) (w : Work) (spot leaf : Spot) (id : ℕ) (version pair_at
     tree_2 =
         let leaf_stands = holds.tree.each leaf_slot.0 leaf_slot.1 in
         let ends : leaf_slot.0.id ≡ ending it.0.path (ending below.down leaf_stands.ends.0) =
-            leaf_stands.ends.1 ∙ ap (λ (p : Path). ending p leaf_stands.ends.0) leaf_slot.2 ∙ ending_append below.down it.0.path leaf_stands.ends.0 in
+        leaf_stands.ends.1 ∙ ap (λ (p : Path). ending p leaf_stands.ends.0) leaf_slot.2 ∙ ending_append below.down it.0.path leaf_stands.ends.0 in
         slot_changed (reading move_1) (reading move_2) class picked.others tree_1 it.0 own_stays now refl refl cell (ap (reading move_2) it.3 ∙ wrote_2.here)
         (λ n no_own. wrote_2.elsewhere n (λ e. no_own (e ∙ sym it.3))) slot_kind fits
         (ap (λ (s : ObjectSlot). s.id) says ∙ ap (λ (c : Cell). (slot_in c).id) (sym leaf_is) ∙ leaf_stands.of_object)
@@ -159,7 +156,7 @@ module _ (class : ℕ) (w : Work) (spot leaf : Spot) (id : ℕ) (version pair_at
         | inr no_own ↦ elim (which n pair_at.number) [
           | inl at_link ↦
               let now_there : reading move_3 pair_at.number ≡ Some pair_cell =
-                  wrote_3.elsewhere pair_at.number (λ e. no_leaf (at_link ∙ e)) ∙ wrote_2.elsewhere pair_at.number (λ e. no_own (at_link ∙ e)) ∙ wrote_1.here in
+              wrote_3.elsewhere pair_at.number (λ e. no_leaf (at_link ∙ e)) ∙ wrote_2.elsewhere pair_at.number (λ e. no_own (at_link ∙ e)) ∙ wrote_1.here in
               inr (
                 subst (λ (k : ℕ). HasNoVersionCell (reading w) k) (sym at_link) (link_none (reading w) class holds.slots holds.tree leaf_slot.0.path leaf leaf_spot no_ref pair_at pair_cell link),
                 subst (λ (k : ℕ). HasNoVersionCell (reading move_3) k) (sym at_link) (link_cell_none (reading w) (reading move_3) class leaf no_ref pair_at pair_cell link now_there),
@@ -226,9 +223,9 @@ module _ (class : ℕ) (w : Work) (spot leaf : Spot) (id : ℕ) (version pair_at
         ])
         none
         (λ n blank. elsewhere n
-            (λ e. link_not_free (reading w) class holds.slots holds.tree leaf_slot.0.path leaf leaf_spot no_ref pair_at pair_cell link n blank.zero (sym e))
-            (λ e. free_no_slot (reading w) class holds.slots holds.tree n blank.zero it.0 it.1 (it.3 ∙ sym e))
-            (λ e. free_no_slot (reading w) class holds.slots holds.tree n blank.zero leaf_slot.0 leaf_slot.1 (leaf_slot.3 ∙ sym e)))
+        (λ e. link_not_free (reading w) class holds.slots holds.tree leaf_slot.0.path leaf leaf_spot no_ref pair_at pair_cell link n blank.zero (sym e))
+        (λ e. free_no_slot (reading w) class holds.slots holds.tree n blank.zero it.0 it.1 (it.3 ∙ sym e))
+        (λ e. free_no_slot (reading w) class holds.slots holds.tree n blank.zero leaf_slot.0 leaf_slot.1 (leaf_slot.3 ∙ sym e)))
 
     in_own : (n : ℕ) → IsAmong (cells_of holds.slots) n → IsAmong cells n
     in_own n within = subst (λ (ns : List ℕ). IsAmong ns n) (sym holds.cells_are) within

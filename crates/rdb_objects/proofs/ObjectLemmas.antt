@@ -1,5 +1,5 @@
 -- The objects of a tree's slots: what a slot says of its object, and what changes of lists of objects make of their versions.
-use Rattle.std.proofs.Common.{◌≡◌, ◌≢◌, ◌<◌, ◌≤◌, ◌+◌, ◌⊎◌, ◌++◌, zero, suc, ℕ, List, [], ◌∷◌, length, map, slice_get, Option, Some, None, IsSome, Bool, true, false, cond, inl, inr, refl, sym, ap, ap₂, subst, ◌∙◌, arith, rules}
+use Rattle.std.proofs.Common.{◌≡◌, ◌≢◌, ◌⊎◌, ℕ, List, [], ◌∷◌, slice_get, Option, Some, IsSome, inl, inr, refl, sym, ap, subst, ◌∙◌, arith, rules}
 use Rattle.std.proofs.Permutation.{which}
 use Rattle.std.proofs.lemmas.Bool.{eq-eqb, ne_eqb}
 use Rattle.std.specs.Prelude.{◌==◌, if◌then◌else◌}
@@ -8,10 +8,10 @@ use Rattle.rdb_pages.specs.declared.cell.CellRef.{CellRef}
 use Rattle.rdb_cells.specs.Images.{Image, IsCell}
 use Rattle.rdb_cells.specs.Links.{IsAmong, AreOnce}
 use Rattle.rdb_cells.specs.ObjectFormat.{slot_in}
-use Rattle.rdb_objects.specs.Objects.{Object, ids_of, newest_of, versions_of, newest_version, HaveVersions, SameObjects, with_version, without, with_rest, without_version}
-use Rattle.rdb_objects.specs.Slots.{Path, Slot, IsOneOf, HasSlot, AreSlots, HoldVersions, AreObjectsOf, HoldsObjects}
+use Rattle.rdb_objects.specs.Objects.{Object, ids_of, newest_of, versions_of, newest_version, HaveVersions, with_version, without, with_rest, without_version}
+use Rattle.rdb_objects.specs.Slots.{Slot, IsOneOf, AreObjectsOf, HoldsObjects}
 use Rattle.rdb_objects.specs.declared.tree.Spot.{Spot}
-use Rattle.rdb_objects.specs.Walks.{IsSpot, HasNone, IsFound}
+use Rattle.rdb_objects.specs.Walks.{IsFound}
 use Rattle.rdb_objects.proofs.TreeLemmas.{same_cell}
 
 -- the first of versions that there are

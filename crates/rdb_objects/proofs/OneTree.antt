@@ -1,7 +1,6 @@
 -- An image holds one tree of a class's slots, and so one list of objects.
-use Rattle.std.proofs.Common.{◌≡◌, ◌≢◌, ◌<◌, ◌+◌, ◌⊎◌, ℕ, List, [], ◌∷◌, slice_get, Option, Some, inl, inr, refl, sym, ap, subst, ◌∙◌, arith}
+use Rattle.std.proofs.Common.{◌≡◌, ◌+◌, ℕ, List, [], ◌∷◌, slice_get, inl, inr, refl, sym, ap, subst, ◌∙◌, arith}
 use Rattle.rdb_pages.specs.declared.cell.Cell.{Cell}
-use Rattle.rdb_pages.specs.declared.cell.CellRef.{CellRef}
 use Rattle.rdb_cells.specs.HeadFormat.{class_head_in}
 use Rattle.rdb_cells.specs.Images.{Image}
 use Rattle.rdb_cells.specs.Links.{IsAmong}
@@ -10,7 +9,7 @@ use Rattle.rdb_cells.specs.References.{class_head_ref}
 use Rattle.rdb_cells.specs.Words.{ref_in}
 use Rattle.rdb_cells.proofs.FormatLemmas.{child_there}
 use Rattle.rdb_objects.specs.Changes.{HoldsOne}
-use Rattle.rdb_objects.specs.Objects.{Object, newest_of, versions_of, SameObjects}
+use Rattle.rdb_objects.specs.Objects.{Object, versions_of, SameObjects}
 use Rattle.rdb_objects.specs.Slots.{Path, Slot, cells_of, IsOneOf, HasSlot, Leads, HasAbove, AreSlots, HoldVersions, HoldsObjects}
 use Rattle.rdb_objects.proofs.ChainLemmas.{one_chain}
 use Rattle.rdb_objects.proofs.TreeLemmas.{same_cell, in_cells, slot_in_cell, led_slot}
@@ -42,8 +41,7 @@ module _ (image : Image) (class : ℕ) (xs ys : List Slot) (first : AreSlots ima
       let mine = first.each s one in
       let its = second.each there.slot there.one in
       let cell = same_cell image s.number its.cell mine.cell (ap image (sym there.numbered) ∙ its.here) mine.here in
-      let newest = sym its.newest ∙ ap (λ (c : Cell). (slot_in c).newest) cell ∙ mine.newest in
-      (
+      let newest = sym its.newest ∙ ap (λ (c : Cell). (slot_in c).newest) cell ∙ mine.newest in (
         there.slot,
         there.one,
         there.numbered,

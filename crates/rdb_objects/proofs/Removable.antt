@@ -1,5 +1,5 @@
 -- A version that can be removed: its header, the one before it, and whether it is the last.
-use Rattle.std.proofs.Common.{◌≡◌, ◌≢◌, ◌<◌, ◌≤◌, ◌+◌, ◌^◌, ◌⊎◌, ◌++◌, zero, suc, ℕ, List, [], ◌∷◌, length, Option, Some, IsSome, inl, inr, refl, sym, ap, subst, ◌∙◌, arith, rules}
+use Rattle.std.proofs.Common.{◌≡◌, ◌≢◌, ◌<◌, ◌^◌, ◌++◌, ℕ, List, [], ◌∷◌, Option, Some, IsSome, refl, sym, ap, subst, ◌∙◌, arith, rules}
 use Rattle.std.specs.List.{Contains}
 use Rattle.rdb_pages.specs.declared.cell.Cell.{Cell}
 use Rattle.rdb_pages.specs.declared.cell.CellRef.{CellRef}
@@ -12,7 +12,7 @@ use Rattle.rdb_objects.specs.declared.tree.Spot.{Spot}
 use Rattle.rdb_objects.specs.Chains.{AreFrom, IsBehind, IsNewer}
 use Rattle.rdb_objects.specs.Changes.{HasVersion, HasLast}
 use Rattle.rdb_objects.specs.Objects.{newest_of, versions_of}
-use Rattle.rdb_objects.specs.Slots.{Path, Slot, IsOneOf, IsVersion, AreVersions, HoldsObjects}
+use Rattle.rdb_objects.specs.Slots.{Slot, IsOneOf, AreVersions}
 use Rattle.rdb_objects.specs.Walks.{IsFound, WhateverSlots}
 use Rattle.rdb_objects.proofs.Adding.{cell_small, version_there}
 use Rattle.rdb_objects.proofs.ChainLemmas.{numbers, ref_is, older_part, split_at, contained}
@@ -102,6 +102,7 @@ module _ (image : Image) (class : ℕ) (spot : Spot) (id : ℕ) (version : CellR
           no_rest : (vs : List CellRef) → AreVersions image it.0.id vs → newest_of vs ≡ no_ref → vs ≡ []
           no_rest [] stand is = refl
           no_rest (v ∷ vs) stand is = let some = stand.0.some in let zero_is : v.number ≡ 0 = ap (λ (r : CellRef). r.number) is in absurd (omega arith)
+
           alone : (vs : List CellRef) → AreVersions image it.0.id vs → ¬ (vs ≡ []) → newest_of vs ≡ version → vs ≡ version ∷ []
           alone [] stand some is = absurd (some refl)
           alone (v ∷ vs) stand some is =

@@ -1,7 +1,6 @@
 -- A version is removed from an object that has another one: the header before it leads past it, or the slot to the next one.
-use Rattle.std.proofs.Common.{◌≡◌, ◌≢◌, ◌<◌, ◌≤◌, ◌+◌, ◌^◌, ◌⊎◌, ◌↔◌, ◌++◌, zero, suc, ℕ, List, [], ◌∷◌, length, length-append, map, Option, Some, inl, inr, refl, sym, ap, subst, ◌∙◌, arith}
+use Rattle.std.proofs.Common.{◌≡◌, ◌≢◌, ◌⊎◌, ◌++◌, ℕ, List, [], ◌∷◌, map, Some, inl, inr, refl, sym, ap, subst, ◌∙◌, arith}
 use Rattle.std.proofs.Permutation.{which}
-use Rattle.std.proofs.lemmas.Bool.{eq-eqb}
 use Rattle.std.proofs.lemmas.List.{append_assoc}
 use Rattle.rdb_pages.specs.declared.cell.Cell.{Cell}
 use Rattle.rdb_pages.specs.declared.cell.CellRef.{CellRef}
@@ -10,8 +9,7 @@ use Rattle.rdb_cells.specs.declared.formats.object.ObjectSlot.{ObjectSlot}
 use Rattle.rdb_cells.specs.declared.formats.version.VersionHeader.{VersionHeader}
 use Rattle.rdb_cells.specs.declared.kind.Kind.TheVariants as kind
 use Rattle.rdb_cells.specs.Images.{Image, Writes}
-use Rattle.rdb_cells.specs.Index.{KeepsAccount}
-use Rattle.rdb_cells.specs.Keys.{SameVersionCells, HasNoVersionCell, IsOfVersion}
+use Rattle.rdb_cells.specs.Keys.{SameVersionCells, HasNoVersionCell}
 use Rattle.rdb_cells.specs.Links.{IsAmong, AreOnce, AreOf}
 use Rattle.rdb_cells.specs.ObjectFormat.{IsSlot, slot_in}
 use Rattle.rdb_cells.specs.Records.{content}
@@ -22,17 +20,17 @@ use Rattle.rdb_cells.specs.Work.{Work, reading, IsBlank, IsLeft, TakesNone}
 use Rattle.rdb_cells.proofs.VersionCellLemmas.{others_written}
 use Rattle.rdb_cells.proofs.WorkLemmas.{put_work, put_reads, put_says, left_blank, put_takes_none, lowest_none, put_longer}
 use Rattle.rdb_objects.specs.declared.tree.Spot.{Spot}
-use Rattle.rdb_objects.specs.Chains.{AreFrom, IsNewer}
+use Rattle.rdb_objects.specs.Chains.{IsNewer}
 use Rattle.rdb_objects.specs.Changes.{HasVersion, HoldsAnew, RemovesVersion, KeepsVersionCells, IsSameButOlder}
 use Rattle.rdb_objects.specs.Objects.{Object, newest_of, versions_of, without, without_version}
-use Rattle.rdb_objects.specs.Slots.{Path, Slot, cells_of, IsOneOf, IsVersion, AreVersions, AreSlots, HoldVersions, AreObjectsOf, HoldsObjects}
+use Rattle.rdb_objects.specs.Slots.{Slot, cells_of, IsOneOf, IsVersion, AreVersions, AreSlots, HoldVersions, HoldsObjects}
 use Rattle.rdb_objects.specs.Walks.{IsFound, WhateverSlots}
-use Rattle.rdb_objects.proofs.Adding.{version_again, versions_again, slot_none, object_none}
-use Rattle.rdb_objects.proofs.ChainLemmas.{numbers, one_header, older_part, chain_member, chain_once, contained, without_there, once_front, chain_beside, chain_past}
+use Rattle.rdb_objects.proofs.Adding.{versions_again, slot_none, object_none}
+use Rattle.rdb_objects.proofs.ChainLemmas.{numbers, one_header, older_part, chain_member, chain_once, without_there, once_front, chain_beside, chain_past}
 use Rattle.rdb_objects.proofs.ObjectLemmas.{found_slot, found_versions, found_newest, without_here, without_other, once_without, have_without, objects_changed}
 use Rattle.rdb_objects.proofs.TreeChanges.{kinds_apart}
 use Rattle.rdb_objects.proofs.TreeLemmas.{same_cell, in_cells, slot_in_cell, Picked, pick}
-use Rattle.rdb_objects.proofs.TreeSteps.{head_no_slot, free_no_slot, tree_beside, slot_changed}
+use Rattle.rdb_objects.proofs.TreeSteps.{free_no_slot, tree_beside, slot_changed}
 
 -- The cells of a slot and of the others
 module _ (slots : List Slot) (s : Slot) (one : IsOneOf slots s) (picked : Picked slots s) where
@@ -209,13 +207,13 @@ module _ (class : ℕ) (w : Work) (spot : Spot) (id : ℕ) (version newest newer
     hold_past t one = elim one [
       | inl same ↦
           let mine : AreVersions (reading past_1) it.0.id (parts.0 ++ newer ∷ parts.1) =
-              chain_past (reading w) (reading past_1) it.0.id newer.number wrote.elsewhere parts.0 newer version parts.1 refl once.0 (λ within. once.1 (inr within)) header_now chain in
+          chain_past (reading w) (reading past_1) it.0.id newer.number wrote.elsewhere parts.0 newer version parts.1 refl once.0 (λ within. once.1 (inr within)) header_now chain in
           subst (λ (x : Slot). (¬ (x.versions ≡ [])) × AreVersions (reading past_1) x.id x.versions) same (some_in_middle parts.0 newer parts.1, mine)
       | inr other ↦
           let was = holds.versions t (picked.back t other) in
           let foreign : ¬ IsAmong (numbers t.versions) newer.number = λ within.
-              let member = chain_member (reading w) t.id t.versions newer.number was.1 within in
-              beside t other (one_header (reading w) t.id it.0.id member.0 newer member.1 version member.2 tail.0 member.3).0 in
+          let member = chain_member (reading w) t.id t.versions newer.number was.1 within in
+          beside t other (one_header (reading w) t.id it.0.id member.0 newer member.1 version member.2 tail.0 member.3).0 in
           (was.0, chain_beside (reading w) (reading past_1) t.id newer.number wrote.elsewhere t.versions foreign was.1)
     ]
 
@@ -269,7 +267,7 @@ module _ (class : ℕ) (w : Work) (spot : Spot) (id : ℕ) (version newest newer
         let was = same_cell (reading w) newer.number old c old_there here in
         let link : older ≡ (header_in cell).older = ap (λ (h : VersionHeader). h.older) (sym says) in
         let whole : header_in cell ≡ record (header_in old) { older = (header_in cell).older } =
-            says ∙ ap (λ (r : CellRef). (let h : VersionHeader = record (header_in old) { older = r } in h)) link in
+        says ∙ ap (λ (r : CellRef). (let h : VersionHeader = record (header_in old) { older = r } in h)) link in
         let kind_old : IsOfKind old kind.Version = ap kind_number (sym old_cell) ∙ tail.0.kind in
         inr (
           subst (λ (d : Cell). IsOfKind d kind.Version) was kind_old,

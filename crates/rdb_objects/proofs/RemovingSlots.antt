@@ -1,34 +1,31 @@
 -- The last version of an object is removed, and its slot goes: a leaf's cell is given back, or a leaf's object moves up.
-use Rattle.std.proofs.Common.{◌≡◌, ◌≢◌, ◌<◌, ◌≤◌, ◌+◌, ◌^◌, ◌⊎◌, ◌++◌, zero, suc, ℕ, List, [], ◌∷◌, length, length-append, map, Option, Some, inl, inr, refl, sym, ap, subst, ◌∙◌, arith}
+use Rattle.std.proofs.Common.{◌≡◌, ◌≢◌, ◌⊎◌, ◌++◌, suc, ℕ, List, [], ◌∷◌, length, map, Some, inl, inr, refl, sym, ap, subst, ◌∙◌, arith}
 use Rattle.std.proofs.Permutation.{which}
 use Rattle.rdb_pages.specs.declared.cell.Cell.{Cell}
 use Rattle.rdb_pages.specs.declared.cell.CellRef.{CellRef}
 use Rattle.rdb_pages.specs.Pages.{zero_cell}
-use Rattle.rdb_cells.specs.declared.formats.object.ObjectSlot.{ObjectSlot}
-use Rattle.rdb_cells.specs.declared.kind.Kind.TheVariants as kind
 use Rattle.rdb_cells.specs.Images.{Image, Writes}
 use Rattle.rdb_cells.specs.Keys.{SameVersionCells, HasNoVersionCell}
 use Rattle.rdb_cells.specs.Links.{IsAmong, AreOf}
-use Rattle.rdb_cells.specs.ObjectFormat.{IsSlot, slot_in}
 use Rattle.rdb_cells.specs.Records.{content}
 use Rattle.rdb_cells.specs.References.{class_head_ref}
-use Rattle.rdb_cells.specs.Words.{IsOfKind, no_ref}
-use Rattle.rdb_cells.specs.Work.{Work, reading, IsBlank, IsLeft, TakesNone}
+use Rattle.rdb_cells.specs.Words.{no_ref}
+use Rattle.rdb_cells.specs.Work.{Work, reading, IsLeft, TakesNone}
 use Rattle.rdb_cells.proofs.VersionCellLemmas.{others_written}
 use Rattle.rdb_cells.proofs.WorkLemmas.{put_work, put_reads, put_says, left_blank, put_takes_none, none_then, put_longer}
 use Rattle.rdb_objects.specs.declared.tree.Spot.{Spot}
 use Rattle.rdb_objects.specs.Changes.{HasLast, HoldsAnew, RemovesVersion}
-use Rattle.rdb_objects.specs.Objects.{Object, newest_of, versions_of, without, without_version}
-use Rattle.rdb_objects.specs.Slots.{Path, Slot, ending, cells_of, IsOneOf, IsVersion, AreVersions, AreSlots, HoldVersions, HoldsObjects}
+use Rattle.rdb_objects.specs.Objects.{Object, versions_of, without, without_version}
+use Rattle.rdb_objects.specs.Slots.{Path, Slot, cells_of, IsOneOf, IsVersion, AreVersions, AreSlots, HoldVersions, HoldsObjects}
 use Rattle.rdb_objects.specs.Walks.{IsSpot, IsLink, IsFound, IsLeafBelow, IsLeadingToLeaf, WhateverSlots}
-use Rattle.rdb_objects.proofs.Adding.{versions_again, slot_none, object_none, free_none, link_at, link_none, link_cell_none, link_not_free}
+use Rattle.rdb_objects.proofs.Adding.{versions_again, slot_none, free_none, link_at, link_none, link_cell_none, link_not_free}
 use Rattle.rdb_objects.proofs.ChainLemmas.{without_there}
 use Rattle.rdb_objects.proofs.ObjectLemmas.{found_slot, found_versions, none_found}
 use Rattle.rdb_objects.proofs.OneTree.{same_versions}
-use Rattle.rdb_objects.proofs.Removing.{own_cells, all_cells, keeps_all, removed, header_no_head, header_no_slot}
+use Rattle.rdb_objects.proofs.Removing.{own_cells, all_cells, keeps_all, removed}
 use Rattle.rdb_objects.proofs.TreeChanges.{upper_of}
-use Rattle.rdb_objects.proofs.TreeLemmas.{same_cell, in_cells, slot_in_cell, one_cell, Picked, pick, led_slot, ending_append}
-use Rattle.rdb_objects.proofs.TreeSteps.{head_no_slot, free_no_slot, tree_beside, slot_went, slot_changed}
+use Rattle.rdb_objects.proofs.TreeLemmas.{in_cells, one_cell, Picked, pick, led_slot}
+use Rattle.rdb_objects.proofs.TreeSteps.{head_no_slot, free_no_slot, slot_went}
 
 -- a link leads from another slot than the one at its spot
 pub link_apart : (image : Image) (class : ℕ) (slots : List Slot) (tree : AreSlots image class slots) (s : Slot) (one : IsOneOf slots s) (spot : Spot) → IsSpot slots s.path spot → (m at : CellRef) (cell : Cell) → IsLink image class spot m at cell → s.number ≢ at.number
@@ -185,8 +182,8 @@ module _ (class : ℕ) (w : Work) (spot leaf : Spot) (id : ℕ) (version pair_at
         ])
         none
         (λ n blank. elsewhere n
-            (λ e. link_not_free (reading w) class holds.slots holds.tree it.0.path leaf leaf_spot no_ref pair_at pair_cell link n blank.zero (sym e))
-            (λ e. free_no_slot (reading w) class holds.slots holds.tree n blank.zero it.0 it.1 (number_is ∙ sym e)))
+        (λ e. link_not_free (reading w) class holds.slots holds.tree it.0.path leaf leaf_spot no_ref pair_at pair_cell link n blank.zero (sym e))
+        (λ e. free_no_slot (reading w) class holds.slots holds.tree n blank.zero it.0 it.1 (number_is ∙ sym e)))
 
     own_now : (n : ℕ) → (content leaf_2.pairs n ≡ content w.pairs n) ⊎ (n ≡ (class_head_ref class).number) ⊎ IsAmong cells n ⊎ IsAmong (map (λ v. v.number) (versions_of objects id)) n
     own_now n = elim (put_says leaf_1 pair_at pair_cell n) [

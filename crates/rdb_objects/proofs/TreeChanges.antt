@@ -1,24 +1,20 @@
 -- What writes make of a tree of slots: the link to a spot, a slot that comes, one that goes, one that has another object.
-use Rattle.std.proofs.Common.{◌≡◌, ◌≢◌, ◌<◌, ◌≤◌, ◌+◌, ◌^◌, ◌⊎◌, zero, suc, ℕ, List, [], ◌∷◌, length, slice_get, Option, Some, inl, inr, refl, sym, ap, subst, ◌∙◌, arith}
+use Rattle.std.proofs.Common.{◌≡◌, ◌≢◌, ◌<◌, zero, suc, ℕ, List, [], ◌∷◌, length, slice_get, Option, Some, inl, inr, refl, sym, ap, subst, ◌∙◌, arith}
 use Rattle.std.proofs.Permutation.{which}
 use Rattle.std.specs.Option.{option_map_or}
 use Rattle.std.specs.Prelude.{slice_set}
 use Rattle.rdb_pages.specs.declared.cell.Cell.{Cell}
 use Rattle.rdb_pages.specs.declared.cell.CellRef.{CellRef}
-use Rattle.rdb_pages.specs.Pages.{zero_cell}
 use Rattle.rdb_cells.specs.declared.formats.object.ObjectSlot.{ObjectSlot}
-use Rattle.rdb_cells.specs.declared.kind.Kind.TheVariants as kind
 use Rattle.rdb_cells.specs.HeadFormat.{class_head_in}
 use Rattle.rdb_cells.specs.Images.{Image}
-use Rattle.rdb_cells.specs.Links.{IsAmong, AreOnce}
 use Rattle.rdb_cells.specs.ObjectFormat.{IsSlot, slot_in, slot_children}
 use Rattle.rdb_cells.specs.References.{class_head_ref}
-use Rattle.rdb_cells.specs.Words.{kind_number, number_of, IsOfKind, no_ref}
+use Rattle.rdb_cells.specs.Words.{kind_number}
 use Rattle.rdb_objects.specs.declared.tree.Spot.{Spot}
-use Rattle.rdb_objects.specs.Objects.{newest_of}
-use Rattle.rdb_objects.specs.Slots.{Path, Slot, ending, cells_of, IsOneOf, HasSlot, Leads, HasAbove, IsSlotAt, IsRooted, AreSlots}
-use Rattle.rdb_objects.specs.Walks.{IsLedTo, IsSpot, HasNone, IsLink, LinksHead, LinksSlot}
-use Rattle.rdb_objects.proofs.TreeLemmas.{same_cell, in_cells, slot_in_cell, one_cell, Picked, leads_by, here_is, one_path, no_slot}
+use Rattle.rdb_objects.specs.Slots.{Path, Slot, IsOneOf, HasSlot, Leads, HasAbove, IsSlotAt, IsRooted, AreSlots}
+use Rattle.rdb_objects.specs.Walks.{IsLedTo, IsSpot, IsLink, LinksSlot}
+use Rattle.rdb_objects.proofs.TreeLemmas.{same_cell, one_cell, one_path}
 
 -- Lists of references
 pub set_there : (xs : List CellRef) (i : ℕ) (v x : CellRef) → slice_get (slice_set xs i v) i ≡ Some x → x ≡ v
@@ -137,7 +133,7 @@ module _ (before after : Image) (class : ℕ) (ss zs : List Slot) (tree : AreSlo
         let path_is : spot.place ∷ t.path ≡ path = ap (λ (p : Path). spot.place ∷ p) t_path ∙ sym upper.1 in
         let old = same_cell before at.number slot.3.0 stands.cell slot.3.1 (ap before (sym number) ∙ stands.here) in
         let says : slot_in cell ≡ record (slot_in stands.cell) { children = slice_set (slot_in stands.cell).children spot.place m } =
-            subst (λ (c : Cell). slot_in cell ≡ record (slot_in c) { children = slice_set (slot_in c).children spot.place m }) old slot.3.2 in
+        subst (λ (c : Cell). slot_in cell ≡ record (slot_in c) { children = slice_set (slot_in c).children spot.place m }) old slot.3.2 in
         let long = set_length (slot_in stands.cell).children spot.place m in
         record {
           some = stands.some;
@@ -178,7 +174,7 @@ module _ (before after : Image) (class : ℕ) (ss zs : List Slot) (tree : AreSlo
         | inr apart ↦
             let upper = upper_of ss path spot.above spot.place is.led_to slot.0 in
             other_slot apart (λ place e.
-                let tails = same_tail place spot.place t.path upper.0 (e ∙ upper.1) in
-                apart (one_path before class ss tree upper.0 t upper.3.slot one upper.3.one tails upper.3.there ∙ upper.3.numbered ∙ ap (λ (r : CellRef). r.number) (sym slot.1)))
+            let tails = same_tail place spot.place t.path upper.0 (e ∙ upper.1) in
+            apart (one_path before class ss tree upper.0 t upper.3.slot one upper.3.one tails upper.3.there ∙ upper.3.numbered ∙ ap (λ (r : CellRef). r.number) (sym slot.1)))
       ]
     ]

@@ -1,5 +1,5 @@
 -- The slots of a tree: which stand where, and what leads to them.
-use Rattle.std.proofs.Common.{◌≡◌, ◌≢◌, ◌<◌, ◌≤◌, ◌+◌, ◌*◌, ◌^◌, ◌⊎◌, ◌++◌, zero, suc, ℕ, List, [], ◌∷◌, length, slice_get, Option, Some, inl, inr, refl, sym, ap, subst, ◌∙◌, arith}
+use Rattle.std.proofs.Common.{◌≡◌, ◌≢◌, ◌<◌, ◌≤◌, ◌+◌, ◌*◌, ◌^◌, ◌⊎◌, ◌++◌, suc, ℕ, List, [], ◌∷◌, length, slice_get, Option, Some, inl, inr, refl, sym, ap, subst, ◌∙◌, arith}
 use Rattle.std.proofs.Math.Nat.{pow-succ'}
 use Rattle.std.proofs.Permutation.{which}
 use Rattle.std.specs.Option.{option_map_or}
@@ -10,7 +10,7 @@ use Rattle.rdb_cells.specs.Links.{IsAmong, AreOnce}
 use Rattle.rdb_cells.specs.ObjectFormat.{slot_in, slot_children}
 use Rattle.rdb_cells.specs.Words.{ref_in}
 use Rattle.rdb_cells.proofs.FormatLemmas.{child_there}
-use Rattle.rdb_objects.specs.Slots.{Path, Slot, ending, cells_of, IsOneOf, HasSlot, Leads, HasAbove, IsSlotAt, IsRooted, AreSlots}
+use Rattle.rdb_objects.specs.Slots.{Path, Slot, ending, cells_of, IsOneOf, HasSlot, Leads, HasAbove, AreSlots}
 
 -- what a cell holds is one thing
 pub same_cell : (image : Image) (n : ℕ) (c d : Cell) → image n ≡ Some c → image n ≡ Some d → c ≡ d
@@ -62,17 +62,16 @@ pick (t ∷ ts) s (inr later) =
       ];
       back = λ u one. elim one [ inl here ↦ inl here | inr there ↦ inr (rest.back u there) ];
       apart = λ once.
-      let parts = rest.apart once.1 in
-      let beside : ¬ IsAmong (cells_of rest.others) t.number = λ within.
-      let u = slot_in_cell rest.others t.number within in
-      once.0 (subst (λ (n : ℕ). IsAmong (cells_of ts) n) u.2 (in_cells ts u.0 (rest.back u.0 u.1))) in
-      (
-        λ within. elim within [
-          | inl same ↦ once.0 (subst (λ (n : ℕ). IsAmong (cells_of ts) n) (sym same) (in_cells ts s later))
-          | inr other ↦ parts.0 other
-        ],
-        (beside, parts.1),
-      );
+          let parts = rest.apart once.1 in
+          let beside : ¬ IsAmong (cells_of rest.others) t.number = λ within.
+          let u = slot_in_cell rest.others t.number within in
+          once.0 (subst (λ (n : ℕ). IsAmong (cells_of ts) n) u.2 (in_cells ts u.0 (rest.back u.0 u.1))) in (
+            λ within. elim within [
+              | inl same ↦ once.0 (subst (λ (n : ℕ). IsAmong (cells_of ts) n) (sym same) (in_cells ts s later))
+              | inr other ↦ parts.0 other
+            ],
+            (beside, parts.1),
+          );
     }
 
 -- What leads to a path in one list of slots leads there in another with the same slots at the path.

@@ -1,21 +1,20 @@
 -- A slot comes to a tree, goes from it, or has another object.
-use Rattle.std.proofs.Common.{◌≡◌, ◌≢◌, ◌<◌, ◌≤◌, ◌+◌, ◌^◌, ◌⊎◌, zero, suc, ℕ, List, [], ◌∷◌, length, slice_get, Option, Some, inl, inr, refl, sym, ap, subst, ◌∙◌, arith}
+use Rattle.std.proofs.Common.{◌≡◌, ◌≢◌, ◌<◌, ◌^◌, ℕ, List, [], ◌∷◌, slice_get, Some, inl, inr, refl, sym, ap, subst, ◌∙◌, arith}
 use Rattle.rdb_pages.specs.declared.cell.Cell.{Cell}
 use Rattle.rdb_pages.specs.declared.cell.CellRef.{CellRef}
 use Rattle.rdb_pages.specs.Pages.{zero_cell}
-use Rattle.rdb_cells.specs.declared.formats.object.ObjectSlot.{ObjectSlot}
 use Rattle.rdb_cells.specs.declared.kind.Kind.TheVariants as kind
 use Rattle.rdb_cells.specs.HeadFormat.{class_head_in}
 use Rattle.rdb_cells.specs.Images.{Image}
 use Rattle.rdb_cells.specs.Links.{IsAmong, AreOnce}
-use Rattle.rdb_cells.specs.ObjectFormat.{IsSlot, slot_in, slot_children}
+use Rattle.rdb_cells.specs.ObjectFormat.{IsSlot, slot_in}
 use Rattle.rdb_cells.specs.References.{class_head_ref}
-use Rattle.rdb_cells.specs.Words.{kind_number, number_of, IsOfKind, no_ref}
+use Rattle.rdb_cells.specs.Words.{IsOfKind}
 use Rattle.rdb_objects.specs.declared.tree.Spot.{Spot}
 use Rattle.rdb_objects.specs.Objects.{newest_of}
-use Rattle.rdb_objects.specs.Slots.{Path, Slot, ending, cells_of, IsOneOf, HasSlot, Leads, HasAbove, IsSlotAt, IsRooted, AreSlots}
+use Rattle.rdb_objects.specs.Slots.{Path, Slot, ending, cells_of, IsOneOf, HasSlot, Leads, HasAbove, IsSlotAt, AreSlots}
 use Rattle.rdb_objects.specs.Walks.{IsLedTo, IsSpot, HasNone, IsLink}
-use Rattle.rdb_objects.proofs.TreeLemmas.{same_cell, in_cells, slot_in_cell, one_cell, Picked, leads_by, here_is, one_path, no_slot}
+use Rattle.rdb_objects.proofs.TreeLemmas.{in_cells, slot_in_cell, Picked, leads_by, here_is, one_path, no_slot}
 use Rattle.rdb_objects.proofs.TreeChanges.{kinds_apart, no_longer, above_by, relinked_root, relinked_slot}
 
 -- a tree rests on its head and its slots
@@ -186,11 +185,11 @@ module _ (before after : Image) (class : ℕ) (slots : List Slot) (tree : AreSlo
     each = λ t other.
         let was = picked.back t other in
         let above = above_by slots picked.others t.path
-            (λ u there place path. elim (picked.split u there) [
-              | inl it ↦ absurd (leaf t was place (path ∙ ap (λ (x : Slot). place ∷ x.path) (sym it)))
-              | inr stays ↦ (u, stays, refl)
-            ])
-            (tree.each t was).above in
+        (λ u there place path. elim (picked.split u there) [
+          | inl it ↦ absurd (leaf t was place (path ∙ ap (λ (x : Slot). place ∷ x.path) (sym it)))
+          | inr stays ↦ (u, stays, refl)
+        ])
+        (tree.each t was).above in
         relinked_slot before after class slots picked.others tree s.path spot is m at cell link s.number wrote same lead_none lead_others head_apart t was (other_number t other) above;
     once = parts.1;
     ids = λ t u first second ids. tree.ids t u (picked.back t first) (picked.back u second) ids;

@@ -1,6 +1,6 @@
 -- Walks down the tree: towards an id, and to a leaf.
-use Rattle.std.proofs.Common.{◌≡◌, ◌≢◌, ◌<◌, ◌≤◌, ◌+◌, ◌*◌, ◌/◌, ◌%◌, ◌^◌, ◌⊎◌, ◌++◌, zero, suc, ℕ, List, [], ◌∷◌, length, slice_get, Option, Some, IsSome, inl, inr, refl, sym, ap, subst, ◌∙◌, arith, rules}
-use Rattle.std.proofs.lemmas.List.{append-nil, append_assoc}
+use Rattle.std.proofs.Common.{◌≡◌, ◌≢◌, ◌<◌, ◌≤◌, ◌+◌, ◌*◌, ◌/◌, ◌%◌, ◌^◌, ◌⊎◌, ◌++◌, ℕ, List, [], ◌∷◌, length, slice_get, Option, Some, IsSome, inl, inr, refl, sym, ap, subst, ◌∙◌, arith, rules}
+use Rattle.std.proofs.lemmas.List.{append-nil}
 use Rattle.std.proofs.Permutation.{which}
 use Rattle.std.specs.Option.{option_map_or}
 use Rattle.rdb_pages.specs.declared.cell.Cell.{Cell}
@@ -12,9 +12,9 @@ use Rattle.rdb_cells.specs.References.{class_head_ref}
 use Rattle.rdb_cells.specs.Words.{no_ref, ref_in}
 use Rattle.rdb_cells.proofs.FormatLemmas.{child_there}
 use Rattle.rdb_objects.specs.declared.tree.Spot.{Spot}
-use Rattle.rdb_objects.specs.Slots.{Path, Slot, ending, cells_of, IsOneOf, HasSlot, Leads, HasAbove, IsSlotAt, IsRooted, AreSlots}
-use Rattle.rdb_objects.specs.Walks.{IsLedTo, IsSpot, HasNone, IsFound, IsLeafBelow, IsChildAt, HasNoChildBelow}
-use Rattle.rdb_objects.proofs.TreeLemmas.{same_cell, one_cell, here_is, one_path, same_path, ancestor, depth, led_slot, no_slot, ending_append, ending_one, ending_all}
+use Rattle.rdb_objects.specs.Slots.{Path, Slot, ending, IsOneOf, HasSlot, Leads, HasAbove, AreSlots}
+use Rattle.rdb_objects.specs.Walks.{IsSpot, IsFound, IsLeafBelow, IsChildAt, HasNoChildBelow}
+use Rattle.rdb_objects.proofs.TreeLemmas.{same_cell, same_path, ancestor, depth, led_slot, no_slot, ending_append, ending_one, ending_all}
 
 -- how far a walk towards an id has come
 pub record IsSought (slots : List Slot) (id count digits : ℕ) (spot : Spot) : Type 0 where
@@ -81,10 +81,13 @@ module _ (image : Image) (class : ℕ) (slots : List Slot) (tree : AreSlots imag
       path = so_far.path;
       is_spot = so_far.is_spot;
       ends = (digits, so_far.ends);
-      found = inl (none, λ s one same.
-          let way = so_far.toward s one same in
-          let above = ancestor image class slots tree way.0 so_far.path s one way.1 in
-          no_slot image class slots tree so_far.path (subst (λ (n : ℕ). Leads slots so_far.path n) none so_far.is_spot.leads) above.0 above.1 above.2);
+      found = inl (
+        none,
+        λ s one same.
+            let way = so_far.toward s one same in
+            let above = ancestor image class slots tree way.0 so_far.path s one way.1 in
+            no_slot image class slots tree so_far.path (subst (λ (n : ℕ). Leads slots so_far.path n) none so_far.is_spot.leads) above.0 above.1 above.2,
+      );
     }
 
     module _ (some : spot.slot.number ≢ 0) where
@@ -139,7 +142,7 @@ module _ (image : Image) (class : ℕ) (slots : List Slot) (tree : AreSlots imag
                     let above = ancestor image class slots tree step.0 (step.1 ∷ path) s one at in
                     let below = (subst (HasAbove slots) above.2 (tree.each above.0 above.1).above).0 in
                     let whole : ending path digits ≡ ending path (step.1 + slot_children * ending step.0 stands.ends.0) =
-                        sym so_far.ends ∙ sym same ∙ stands.ends.1 ∙ ap (λ (p : Path). ending p stands.ends.0) at ∙ ending_append step.0 (step.1 ∷ path) stands.ends.0 in
+                    sym so_far.ends ∙ sym same ∙ stands.ends.1 ∙ ap (λ (p : Path). ending p stands.ends.0) at ∙ ending_append step.0 (step.1 ∷ path) stands.ends.0 in
                     let rest = ending_one path digits (step.1 + slot_children * ending step.0 stands.ends.0) whole in
                     let digit : step.1 ≡ digits % 8 = digit_is step.1 (ending step.0 stands.ends.0) digits below rest in
                     (step.0, at ∙ ap (λ (d : ℕ). step.0 ++ d ∷ path) digit)

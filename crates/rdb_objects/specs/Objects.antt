@@ -1,5 +1,5 @@
 -- The objects of a class: each with its versions, newest first.
-use Rattle.std.specs.Prelude.{◌≡◌, ◌==◌, ◌⊎◌, ℕ, List, [], ◌∷◌, map, slice_get, Option, if◌then◌else◌}
+use Rattle.std.specs.Prelude.{◌≡◌, ◌==◌, ℕ, List, [], ◌∷◌, map, slice_get, Option, if◌then◌else◌}
 use Rattle.rdb_pages.specs.declared.cell.CellRef.{CellRef}
 use Rattle.rdb_cells.specs.Words.{no_ref}
 

@@ -4,35 +4,29 @@ ghost use Rattle.rdb_objects.specs.Changes.{RestsOnObjects, LeavesObjects, Start
 /// What objects a class has rests on its head, its slots and the links of its headers alone.
 pub fn objects_rest_on_their_cells()
     ensures { RestsOnObjects }
-{
-}
+{}
 
 /// What is written to a free cell leaves the objects as they are.
 pub fn a_free_cell_is_of_no_object()
     ensures { LeavesObjects }
-{
-}
+{}
 
 /// A class whose head is empty has no object and no slot.
 pub fn an_empty_head_holds_nothing()
     ensures { StartsEmpty }
-{
-}
+{}
 
 /// The cells of a class hold one list of objects, but for its order.
 pub fn a_class_holds_one_list()
     ensures { HoldsOne }
-{
-}
+{}
 
 /// The objects may be listed in any order.
 pub fn objects_go_in_any_order()
     ensures { HoldsInAnyOrder }
-{
-}
+{}
 
 /// A version is one of one object alone.
 pub fn a_version_is_of_one_object()
     ensures { OfOneObject }
-{
-}
+{}

@@ -10,7 +10,7 @@ mod tests;
 mod tree;
 
 pub use laws::{
-    a_class_holds_one_list, a_free_cell_is_of_no_object, a_version_is_of_one_object, an_empty_head_holds_nothing,
-    objects_go_in_any_order, objects_rest_on_their_cells,
+    a_class_holds_one_list, a_free_cell_is_of_no_object, a_version_is_of_one_object,
+    an_empty_head_holds_nothing, objects_go_in_any_order, objects_rest_on_their_cells,
 };
 pub use objects::Objects;

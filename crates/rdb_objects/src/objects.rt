@@ -27,11 +27,11 @@ impl Objects {
         requires holds { HoldsSome (C.image cells.now) self.class }
         ensures { Whatever (C.image cells.now) self.class (λ objects slots. result ≡ newest_version objects id) }
     {
-        let spot = find(cells, self.class, id);
-        if spot.slot == NONE {
+        let found = find(cells, self.class, id);
+        if found.slot == NONE {
             return None;
         }
-        Some(ObjectSlot::newest_in(cells.read(spot.slot)))
+        Some(ObjectSlot::newest_in(cells.read(found.slot)))
     }
 
     /// Plans that the version is the newest of the object with this id. Its header stands already, and leads to what was the
@@ -128,6 +128,7 @@ fn remove_slot<C: Cells>(cells: &mut Overlay<C>, class: u32, spot: Spot, id: u64
         slot.id = moved.id;
         slot.newest = moved.newest;
         cells.put(spot.slot, slot.to_cell());
-        cells.put(leaf.slot, Cell::ZERO);
+        let freed = leaf.slot;
+        cells.put(freed, Cell::ZERO);
     }
 }

@@ -115,8 +115,12 @@ fn assert_ids<C: Cells>(rt: &impl Abort, cells: &Overlay<C>, ids: &[u64], what: 
 }
 
 /// Adds an object for each id, and removes them in another order.
-fn churn(rt: &impl Abort, alloc: Global, add_order: &[u64], remove_order: &[u64]) -> Result<(), NoMemory>
-{
+fn churn(
+    rt: &impl Abort,
+    alloc: Global,
+    add_order: &[u64],
+    remove_order: &[u64],
+) -> Result<(), NoMemory> {
     let mut cells = empty_class(rt, alloc)?;
     'adding: for id in add_order {
         add(rt, &mut cells, *id, *id);

@@ -12,7 +12,7 @@ use Rattle.rdb_rows.specs.Versions.{Version as StoredVersion, HoldsVersion}
 use Rattle.rdb_objects.specs.Objects.{Object as Linked, newest_of}
 use Rattle.rdb_sight.specs.Versions.{Version, Object, chain_of}
 use Rattle.rdb_store.specs.Layouts.{Layout}
-use Rattle.rdb_store.specs.Shapes.{ClassShape}
+use Rattle.rdb_store.specs.Classes.{ClassNature}
 
 -- the reference of a version's header
 abbrev pub ref_of : Version → CellRef
@@ -34,21 +34,21 @@ IsRow types None = Unit {0}
 IsRow types (Some row) = IsTrue (row_fits types row) × IsProperRow row
 
 -- a version of an object, in front of the older ones, as its cells say it
-abbrev pub as_stored : ClassShape → ℕ → Version → List Version → StoredVersion
-as_stored shape id v older = record {
-  label = record { class = shape.number; id = id; serial = v.serial; stamp = v.stamp; older = newest_of (refs_of older) };
-  row = option_map (row_bytes shape.types) v.row;
+abbrev pub as_stored : ClassNature → ℕ → Version → List Version → StoredVersion
+as_stored class id v older = record {
+  label = record { class = class.number; id = id; serial = v.serial; stamp = v.stamp; older = newest_of (refs_of older) };
+  row = option_map (row_bytes class.types) v.row;
 }
 
 -- the version of an object stands in these cells, and leads to the newest of the older ones
-pub record IsStored (shape : ClassShape) (image : Image) (id : ℕ) (v : Version) (older : List Version) (cells : List ℕ) : Type 0 where
-  pub stands : HoldsVersion image v.header (as_stored shape id v older) cells
-  pub row : IsRow shape.types v.row
+pub record IsStored (class : ClassNature) (image : Image) (id : ℕ) (v : Version) (older : List Version) (cells : List ℕ) : Type 0 where
+  pub stands : HoldsVersion image v.header (as_stored class id v older) cells
+  pub row : IsRow class.types v.row
 
 -- each version of an object's chain stands in its cells
-abbrev pub AreStored : ClassShape → Image → Layout → ℕ → List Version → Type 0
-AreStored shape image layout id [] = Unit {0}
-AreStored shape image layout id (v ∷ older) = IsStored shape image id v older (layout.of_version v.header) × AreStored shape image layout id older
+abbrev pub AreStored : ClassNature → Image → Layout → ℕ → List Version → Type 0
+AreStored class image layout id [] = Unit {0}
+AreStored class image layout id (v ∷ older) = IsStored class image id v older (layout.of_version v.header) × AreStored class image layout id older
 
 -- a version of one of the objects
 pub record HasVersion (objects : List Object) (v : Version) : Type 0 where

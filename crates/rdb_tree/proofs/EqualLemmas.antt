@@ -77,9 +77,9 @@ module _ (said : Sayings) (key : List Value) (keys : List CellRef) (parts : List
       let none = keep_none (has_key said key) p (each_so (λ r. goes is_lt said key None r ≡ true) (λ r. has_key said key r ≡ false) (λ r lower. not_if_less (order_against said key None r) lower) p before) in
       next refs
       (ap (λ (rs : List CellRef). refs ++ rs)
-        (sym (filter-append (has_key said key) p (get_or keys place d ∷ rest)
-          ∙ ap₂ (λ (xs ys : List CellRef). xs ++ ys) none (keep_other_ (not_if_less (order_against said key None (get_or keys place d)) less))))
-       ∙ left_split)
+      (sym (filter-append (has_key said key) p (get_or keys place d ∷ rest)
+      ∙ ap₂ (λ (xs ys : List CellRef). xs ++ ys) none (keep_other_ (not_if_less (order_against said key None (get_or keys place d)) less))))
+      ∙ left_split)
     where
       keep_other_ : has_key said key (get_or keys place d) ≡ false → filter (has_key said key) (get_or keys place d ∷ rest) ≡ filter (has_key said key) rest
       keep_other_ other = ap (λ (b : Bool). cond b (get_or keys place d ∷ filter (has_key said key) rest) (filter (has_key said key) rest)) other
@@ -90,11 +90,11 @@ module _ (said : Sayings) (key : List Value) (keys : List CellRef) (parts : List
       let F = filter (has_key said key) in
       next most
       (ap (λ (xs : List CellRef). xs ++ F rest) (two ∙ ap (λ (xs : List CellRef). xs ++ get_or keys place d ∷ []) one)
-       ∙ append_assoc (refs ++ F p) (get_or keys place d ∷ []) (F rest)
-       ∙ append_assoc refs (F p) (get_or keys place d ∷ F rest)
-       ∙ ap (λ (rs : List CellRef). refs ++ rs)
-         (ap (λ (rs : List CellRef). F p ++ rs) (sym (keep_one (has_key said key) (get_or keys place d) rest equal)) ∙ sym (filter-append (has_key said key) p (get_or keys place d ∷ rest)))
-       ∙ left_split)
+      ∙ append_assoc (refs ++ F p) (get_or keys place d ∷ []) (F rest)
+      ∙ append_assoc refs (F p) (get_or keys place d ∷ F rest)
+      ∙ ap (λ (rs : List CellRef). refs ++ rs)
+      (ap (λ (rs : List CellRef). F p ++ rs) (sym (keep_one (has_key said key) (get_or keys place d) rest equal)) ∙ sym (filter-append (has_key said key) p (get_or keys place d ∷ rest)))
+      ∙ left_split)
 
   -- one that is past the key ends the search
   pub end_past : (more : List CellRef) → goes is_le said key None (get_or keys place d) ≡ false → more ≡ refs ++ filter (has_key said key) p → more ≡ all
@@ -102,10 +102,10 @@ module _ (said : Sayings) (key : List Value) (keys : List CellRef) (parts : List
       let F = filter (has_key said key) in
       let far = (cut_back (goes is_le said key None) p (get_or keys place d ∷ rest) (up_to_cuts said key (p ++ get_or keys place d ∷ rest) ascends)).0 past in
       let none = keep_none (has_key said key) (get_or keys place d ∷ rest)
-          (each_so (λ r. goes is_le said key None r ≡ false) (λ r. has_key said key r ≡ false) (λ r higher. not_if_past (order_against said key None r) higher) (get_or keys place d ∷ rest) (past, far)) in
+      (each_so (λ r. goes is_le said key None r ≡ false) (λ r. has_key said key r ≡ false) (λ r higher. not_if_past (order_against said key None r) higher) (get_or keys place d ∷ rest) (past, far)) in
       one
       ∙ ap (λ (rs : List CellRef). refs ++ rs)
-        (sym (append-nil (F p)) ∙ ap (λ (rs : List CellRef). F p ++ rs) (sym none) ∙ sym (filter-append (has_key said key) p (get_or keys place d ∷ rest)))
+      (sym (append-nil (F p)) ∙ ap (λ (rs : List CellRef). F p ++ rs) (sym none) ∙ sym (filter-append (has_key said key) p (get_or keys place d ∷ rest)))
       ∙ left_split
 
 -- the last part
@@ -115,7 +115,7 @@ end_equal said key keys parts place p refs all more end many part left one =
     one
     ∙ ap (λ (xs : List CellRef). refs ++ filter (has_key said key) xs) (sym (append-nil p))
     ∙ ap₂ (λ (ks : List CellRef) (ps : List (List CellRef)). refs ++ filter (has_key said key) (woven ks ps)) (sym (drop_end keys place (omega arith)))
-      (sym (drop_there parts place p part ∙ ap (λ (ps : List (List CellRef)). p ∷ ps) (drop_end parts (suc place) (omega arith))))
+    (sym (drop_there parts place p part ∙ ap (λ (ps : List (List CellRef)). p ∷ ps) (drop_end parts (suc place) (omega arith))))
     ∙ left
 
 -- a row without parts
@@ -126,9 +126,9 @@ row_step said key keys place d refs all more below left one =
     let same : suc place ≡ place + 1 = omega arith in
     subst (λ (n : ℕ). more ++ filter (has_key said key) (drop n keys) ≡ all) same
     (ap (λ (rs : List CellRef). rs ++ filter (has_key said key) (drop (suc place) keys)) one
-     ∙ append_assoc refs (cond (has_key said key (get_or keys place d)) (get_or keys place d ∷ []) []) (filter (has_key said key) (drop (suc place) keys))
-     ∙ ap (λ (rs : List CellRef). refs ++ rs) (by_test (has_key said key (get_or keys place d)) refl)
-     ∙ left)
+    ∙ append_assoc refs (cond (has_key said key (get_or keys place d)) (get_or keys place d ∷ []) []) (filter (has_key said key) (drop (suc place) keys))
+    ∙ ap (λ (rs : List CellRef). refs ++ rs) (by_test (has_key said key (get_or keys place d)) refl)
+    ∙ left)
   where
     by_test : (b : Bool) → has_key said key (get_or keys place d) ≡ b → cond (has_key said key (get_or keys place d)) (get_or keys place d ∷ []) [] ++ filter (has_key said key) (drop (suc place) keys) ≡ filter (has_key said key) (drop place keys)
     by_test b is =

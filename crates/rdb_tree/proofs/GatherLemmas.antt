@@ -103,10 +103,10 @@ gather_step keys parts refs all more most p place d below part left one two =
     let rest = woven (drop (suc place) keys) (drop (suc place) parts) in
     subst (λ (n : ℕ). most ++ woven (drop n keys) (drop n parts) ≡ all) next
     (ap (λ (xs : List CellRef). xs ++ rest) (two ∙ ap (λ (xs : List CellRef). xs ++ k ∷ []) one)
-     ∙ append_assoc (refs ++ p) (k ∷ []) rest
-     ∙ append_assoc refs p (k ∷ rest)
-     ∙ ap₂ (λ (ks : List CellRef) (ps : List (List CellRef)). refs ++ woven ks ps) (sym (drop_there keys place k (get_is keys place d below))) (sym (drop_there parts place p part))
-     ∙ left)
+    ∙ append_assoc (refs ++ p) (k ∷ []) rest
+    ∙ append_assoc refs p (k ∷ rest)
+    ∙ ap₂ (λ (ks : List CellRef) (ps : List (List CellRef)). refs ++ woven ks ps) (sym (drop_there keys place k (get_is keys place d below))) (sym (drop_there parts place p part))
+    ∙ left)
 
 pub drop_end : {X : Type 0} (xs : List X) (n : ℕ) → length xs ≤ n → drop n xs ≡ []
 drop_end [] zero few = refl
@@ -121,7 +121,7 @@ gather_end keys parts refs all more p place end many part left one =
     one
     ∙ ap (λ (xs : List CellRef). refs ++ xs) (sym (append-nil p))
     ∙ ap₂ (λ (ks : List CellRef) (ps : List (List CellRef)). refs ++ woven ks ps) (sym (drop_end keys place (omega arith)))
-      (sym (drop_there parts place p part ∙ ap (λ (ps : List (List CellRef)). p ∷ ps) (drop_end parts (suc place) (omega arith))))
+    (sym (drop_there parts place p part ∙ ap (λ (ps : List (List CellRef)). p ∷ ps) (drop_end parts (suc place) (omega arith))))
     ∙ left
 
 -- what follows where a call returned a value

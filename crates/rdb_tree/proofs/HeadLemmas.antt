@@ -16,7 +16,7 @@ root_read image head root r cell leads here read =
     let same = one_cell image head (index_head_cell (rooted_head root)) cell leads here in
     let back : index_head_in (index_head_cell (rooted_head root)) ≡ rooted_head root = index_head_back (rooted_head root) refl in
     let first : Some root ≡ Some r =
-        ap (λ (h : IndexHead). slice_get h.roots 0) (sym back)
-        ∙ ap (λ (c : Cell). slice_get (index_head_in c).roots 0) same
-        ∙ read in
+    ap (λ (h : IndexHead). slice_get h.roots 0) (sym back)
+    ∙ ap (λ (c : Cell). slice_get (index_head_in c).roots 0) same
+    ∙ read in
     ap (λ (o : Option CellRef). option_map_or (λ x. x) o root) first

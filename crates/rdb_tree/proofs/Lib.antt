@@ -11,3 +11,7 @@ pub mod GatherLemmas
 pub mod EqualLemmas
 pub mod WholeLemmas
 pub mod ChangeLemmas
+pub mod WayLemmas
+pub mod PartLemmas
+pub mod ChildLemmas
+pub mod HalfLemmas

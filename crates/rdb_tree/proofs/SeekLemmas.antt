@@ -120,7 +120,7 @@ module _ (near : CellRef → Bool) where
   near_up part k rest near_k all =
       ap (λ (xs : List CellRef). slice_get xs 0)
       (filter-append (sought near true) part (k ∷ rest)
-       ∙ ap₂ (λ (xs ys : List CellRef). xs ++ ys) (keep_none (sought near true) part (near_not part all)) (keep_other (sought near true) k rest (ap not near_k)))
+      ∙ ap₂ (λ (xs ys : List CellRef). xs ++ ys) (keep_none (sought near true) part (near_not part all)) (keep_other (sought near true) k rest (ap not near_k)))
 
   near_down : (part : List CellRef) (k : CellRef) (rest : List CellRef) → near k ≡ true → beyond near false (part ++ k ∷ rest) ≡ first_of (beyond near false rest) (Some k)
   near_down part k rest near_k =

@@ -190,14 +190,14 @@ module _ (said : Sayings) (image : Image) (place : Place) (up : Bool) (whole : T
         rest = Rooted h child.0;
         sound = child_sound said image place up h t sound child.0 child.1;
         root = sym (leads
-          ∙ ap₂ (λ (cs : List CellRef) (n : ℕ). unwrap_or (slice_get cs n) no_ref) children same
-          ∙ ap (λ (o : Option CellRef). unwrap_or o no_ref) (map_there (λ (c : BTree h). c.at) t.children (prefix_len (is_near said place up) t.keys) child.0 child.1));
+            ∙ ap₂ (λ (cs : List CellRef) (n : ℕ). unwrap_or (slice_get cs n) no_ref) children same
+            ∙ ap (λ (o : Option CellRef). unwrap_or o no_ref) (map_there (λ (c : BTree h). c.at) t.children (prefix_len (is_near said place up) t.keys) child.0 child.1));
         answer =
             answer
             ∙ ap (λ (o : Option CellRef). first_of o best) (inner_answer said image place up h t sound child.0 child.1)
             ∙ first_assoc (first_past said place up (versions h child.0)) (key_beyond up (prefix_len (is_near said place up) t.keys) t.keys) best
             ∙ ap (first_of (first_past said place up (versions h child.0)))
-              (ap₂ (λ (n : ℕ) (ks : List CellRef). first_of (key_beyond up n ks) best) (sym same) (sym keys) ∙ sym chosen);
+            (ap₂ (λ (n : ℕ) (ks : List CellRef). first_of (key_beyond up n ks) best) (sym same) (sym keys) ∙ sym chosen);
         levels = omega arith;
       }
 

@@ -1,8 +1,9 @@
 -- What the changes of single nodes make of the work on a plan.
-use Rattle.std.specs.Prelude.{◌≡◌, ◌≤◌, ◌<◌, ◌+◌, ◌⊎◌, ℕ, suc, List, [], ◌∷◌, ◌++◌, length, take, drop, slice_get, Option, Some, None}
+use Rattle.std.specs.Prelude.{◌≡◌, ◌≤◌, ◌<◌, ◌+◌, ◌-◌, ◌⊎◌, ℕ, suc, List, [], ◌∷◌, ◌++◌, length, take, drop, slice_get, get_or, Option, Some, None}
 use Rattle.rdb_pages.specs.declared.cell.Cell.{Cell}
 use Rattle.rdb_pages.specs.declared.cell.CellRef.{CellRef}
-use Rattle.rdb_cells.specs.HeadFormat.{index_head_cell, rooted_head}
+use Rattle.rdb_pages.specs.Pages.{zero_cell}
+use Rattle.rdb_cells.specs.HeadFormat.{index_head_cell, rooted_head, empty_index_head}
 use Rattle.rdb_cells.specs.Images.{Image, IsCell}
 use Rattle.rdb_cells.specs.Records.{with_put}
 use Rattle.rdb_cells.specs.TreeFormat.{most_keys, tree_node_cell}
@@ -84,3 +85,61 @@ pub record IsNewRoot (before after : Work) (head : CellRef) (keys children : Lis
 -- a leaf has no place for a child, and an inner node one for each
 abbrev pub FitsPlace : ℕ → List CellRef → Type 0
 FitsPlace place children = (children ≡ []) ⊎ (place < length children)
+
+-- Two children of a node, before and behind the key at a place, and that key. Both are leaves, or neither is.
+pub record Siblings (image : Image) (keys children : List CellRef) (place : ℕ) : Type 0 where
+  pub between : CellRef
+  pub left : CellRef
+  pub right : CellRef
+  pub is_between : slice_get keys place ≡ Some between
+  pub is_left : slice_get children place ≡ Some left
+  pub is_right : slice_get children (suc place) ≡ Some right
+  pub left_keys : List CellRef
+  pub left_children : List CellRef
+  pub right_keys : List CellRef
+  pub right_children : List CellRef
+  pub left_node : IsNodeAt image left left_keys left_children
+  pub right_node : IsNodeAt image right right_keys right_children
+  pub alike : ((left_children ≡ []) × (right_children ≡ [])) ⊎ ((length left_children ≡ length left_keys + 1) × (length right_children ≡ length right_keys + 1))
+
+-- a leaf without a version was the root: it goes, and the head leads to none
+abbrev pub leaf_work : Work → CellRef → CellRef → List CellRef → Work
+leaf_work w head at [] = with_cell (with_cell w at zero_cell) head (index_head_cell empty_index_head)
+leaf_work w head at (key ∷ keys) = with_cell w at (cell_of (key ∷ keys) [])
+
+-- a node without a key was the root: it goes, and the head leads to its only child
+abbrev pub parent_work : Work → CellRef → CellRef → CellRef → List CellRef → List CellRef → Work
+parent_work w head only at [] children = with_cell (with_cell w at zero_cell) head (index_head_cell (rooted_head only))
+parent_work w head only at (key ∷ keys) children = with_cell w at (cell_of (key ∷ keys) children)
+
+-- a list without what stands at a place, and with another there
+abbrev pub without : ℕ → List CellRef → List CellRef
+without place refs = take place refs ++ drop (suc place) refs
+
+abbrev pub replaced_at : ℕ → CellRef → List CellRef → List CellRef
+replaced_at place other refs = take place refs ++ other ∷ drop (suc place) refs
+
+module _ {image : Image} {keys children : List CellRef} {place : ℕ} where
+  -- the last key of the left one goes up, and the key between goes down to the right one
+  abbrev pub shared_left : Work → CellRef → Siblings image keys children place → Work
+  shared_left w at s =
+      with_cell (with_cell (with_cell w
+      s.left (cell_of (take (length s.left_keys - 1) s.left_keys) (take (length s.left_children - 1) s.left_children)))
+      s.right (cell_of (s.between ∷ s.right_keys) (drop (length s.left_children - 1) s.left_children ++ s.right_children)))
+      at (cell_of (replaced_at place (get_or s.left_keys (length s.left_keys - 1) no_ref) keys) children)
+
+  -- the first key of the right one goes up, and the key between goes down to the left one
+  abbrev pub shared_right : Work → CellRef → Siblings image keys children place → Work
+  shared_right w at s =
+      with_cell (with_cell (with_cell w
+      s.right (cell_of (drop 1 s.right_keys) (drop 1 s.right_children)))
+      s.left (cell_of (s.left_keys ++ s.between ∷ []) (s.left_children ++ take 1 s.right_children)))
+      at (cell_of (replaced_at place (get_or s.right_keys 0 no_ref) keys) children)
+
+  -- both go into the left one, with the key between
+  abbrev pub merged : Work → CellRef → CellRef → Siblings image keys children place → Work
+  merged w head at s =
+      parent_work (with_cell (with_cell w
+      s.left (cell_of (s.left_keys ++ s.between ∷ s.right_keys) (s.left_children ++ s.right_children)))
+      s.right zero_cell)
+      head s.left at (without place keys) (without (suc place) children)

@@ -5,3 +5,4 @@ pub mod Lookups
 pub mod Nature
 pub mod TreeLaws
 pub mod KeyTable
+pub mod Ways

@@ -37,6 +37,10 @@ pub record IsSound (said : Sayings) (image : Image) (tree : Tree) : Type 0 where
 abbrev pub most_levels : ℕ
 most_levels = 11
 
+-- how many steps a path has places for
+abbrev pub path_places : ℕ
+path_places = 16
+
 -- a sound tree with this root
 pub record IsRootedAt (said : Sayings) (image : Image) (at : CellRef) (tree : Tree) : Type 0 where
   pub sound : IsSound said image tree

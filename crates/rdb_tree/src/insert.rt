@@ -7,8 +7,14 @@ ghost use Rattle.rdb_cells.specs.TreeFormat.{most_children};
 ghost use Rattle.rdb_cells.specs.Work.{work, reading};
 ghost use Rattle.rdb_tree.specs.Changes.{IsNodeAt, FitsKeys, CanTake, HasPlaces, IsLowest, PutsInto, IsNewRoot, split_work, raised_keys, raised_children, FitsPlace};
 ghost use Rattle.rdb_tree.specs.Trees.{most_refs};
+ghost use Rattle.rdb_cells.specs.Keys.{HasKey, says};
+ghost use Rattle.rdb_tree.specs.Nature.{IsRootedAt, path_places};
+ghost use Rattle.rdb_tree.specs.Order.{is_before};
+ghost use Rattle.rdb_tree.specs.Ways.{GoesOnTo};
+ghost use Rattle.rdb_tree.specs.Trees.{Tree as TreeValue, Empty};
 
-use crate::node::{Row, children_of, joined, keys_of, node_at, node_of, with_one};
+use crate::lookup::child_at;
+use crate::node::{MAX_LEVELS, Row, children_of, joined, keys_of, node_at, node_of, with_one};
 use crate::path::{Path, Step};
 use crate::search::count_before;
 use crate::tree::Tree;
@@ -54,21 +60,35 @@ pub(crate) fn put<C: Cells, K: Keys>(
     }
 }
 
-/// Appends the steps from a node down to the place in a leaf where the version belongs.
+/// Appends the steps from the root down to the place in a leaf where the version belongs. It takes no memory.
 fn descend<C: Cells, K: Keys>(
     cells: &Overlay<C>,
     keys: &K,
     version: CellRef,
     root: CellRef,
     path: &mut Path,
-) {
+)
+    requires rooted { (tree : TreeValue) × IsRootedAt (says (K.meaning keys.now) (reading (work C.Cells cells.now)))
+        (reading (work C.Cells cells.now)) root tree }
+    requires version { HasKey (K.meaning keys.now) (reading (work C.Cells cells.now)) version }
+    requires fresh { path.old.items ≡ [] }
+    requires room { path.old.capacity ≡ path_places }
+    ensures way { (tree : TreeValue) → IsRootedAt (says (K.meaning keys.now) (reading (work C.Cells cells.now)))
+        (reading (work C.Cells cells.now)) root tree →
+        GoesOnTo (is_before (says (K.meaning keys.now) (reading (work C.Cells cells.now))) version) path.old.items path.new.items tree Empty }
+    ensures room { path.new.capacity ≡ path_places }
+{
     let mut at = root;
-    while at != NONE {
+    for _ in 0..MAX_LEVELS {
+        if at == NONE {
+            return;
+        }
         let node = node_at(cells, at);
         let place = count_before(cells, keys, keys_of(&node), version);
         path.push_reserved(Step { at, place });
-        at = children_of(&node).get(place).copied().unwrap_or(NONE);
+        at = child_at(&node, place);
     }
+    unreachable!()
 }
 
 /// Puts what was raised into a node. Where the node is full, its right half goes into a new cell, and the middle key is
@@ -91,12 +111,7 @@ fn put_into<C: Cells>(cells: &mut Overlay<C>, step: Step, raised: Raised) -> Opt
         cells.put(step.at, node.to_cell());
         return None;
     }
-    Some(split(
-        cells,
-        step.at,
-        versions.as_slice(),
-        children.as_slice(),
-    ))
+    Some(split(cells, step.at, versions.as_slice(), children.as_slice()))
 }
 
 /// Returns the children of a node with one more behind a place, and none of a leaf.

@@ -80,7 +80,15 @@ pub(crate) fn gather_equal<C: Cells, K: Keys, L: Ledger>(
             }
         }
     }
-    gather_equal(cells, keys, key, children[own.len()], levels - 1, refs, steps)
+    gather_equal(
+        cells,
+        keys,
+        key,
+        children[own.len()],
+        levels - 1,
+        refs,
+        steps,
+    )
 }
 
 /// Appends those of the versions that have the key.
@@ -158,7 +166,7 @@ fn last_of(versions: &[CellRef]) -> Option<CellRef>
 }
 
 /// Returns the child at a place, and none of a leaf.
-fn child_at(node: &TreeNode, place: usize) -> CellRef
+pub(crate) fn child_at(node: &TreeNode, place: usize) -> CellRef
     requires { node.now.count ≤ most_keys }
     ensures { result ≡ unwrap_or (slice_get (children_in node.now) place) no_ref }
 {

@@ -1,4 +1,4 @@
-use Rattle.std.proofs.Common.{◌≡◌, ◌≢◌, nat_eq, false, sym, ◌∙◌, rules}
+use Rattle.std.proofs.Common.{◌≢◌, sym, ◌∙◌, rules}
 use Rattle.std.proofs.lemmas.Bool.{ne_eqb}
 use Rattle.rdb_hash.proofs.KeyTests.{same_key, other_hash}
 use Rattle.rdb_hash.proofs.chain.has_the_key.Goals as goal

@@ -28,8 +28,8 @@ returns-clause-adds g c =
     let linked = subst (λ (o : Laid g.row.C.Denot). IsLink (reading (work g.C.Cells o)) c.args.class c.args.spot c.take-at.result c.link-pair.result.at c.link-pair.result.cell) c.take-at.ensures.taken c.link-pair.ensures in
     let can = c.requires.version in
     let fits : c.args.version.number < 2 ^ 24 =
-        cell_small (reading w) (g.C.Cells.class_of c.args.cells.now.cells) c.args.version.number c.bounded.ensures
-        (version_there (reading w) c.args.id c.args.version (newest_of (versions_of can.objects c.args.id)) can.header) in
+    cell_small (reading w) (g.C.Cells.class_of c.args.cells.now.cells) c.args.version.number c.bounded.ensures
+    (version_there (reading w) c.args.id c.args.version (newest_of (versions_of can.objects c.args.id)) can.header) in
     subst (λ (v : Work). AddsVersion c.args.class w v c.args.id c.args.version) (sym after)
     (adds_first c.args.class w c.args.spot c.args.id c.args.version c.take-at.result c.link-pair.result.at c.link-pair.result.cell c.to_cell.result
     c.requires.spot (ap (λ (r : CellRef). r.number) c.requires.empty) c.requires.version c.ranges.id.fits c.take-at.ensures.lowest linked c.to_cell.ensures.kind (subst IsSlot (sym c.to_cell.ensures.inverse) (refl, fits)) c.to_cell.ensures.inverse)

@@ -1,8 +1,7 @@
 use Rattle.std.proofs.Common.{◌≡◌, ◌≢◌, ◌<◌, ◌^◌, length, Some, sym, ap, ap₂, subst, ◌∙◌, refl, rules}
-use Rattle.rdb_pages.specs.declared.cell.CellRef.{CellRef}
 use Rattle.rdb_pages.specs.Pages.{zero_cell}
 use Rattle.rdb_cells.specs.declared.formats.object.ObjectSlot.{ObjectSlot}
-use Rattle.rdb_cells.specs.ObjectFormat.{IsSlot, slot_in}
+use Rattle.rdb_cells.specs.ObjectFormat.{IsSlot}
 use Rattle.rdb_cells.specs.Work.{Work, work, reading}
 use Rattle.rdb_cells.proofs.WorkLemmas.{put_work, put_is}
 use Rattle.rdb_objects.specs.Changes.{RemovesVersion}

@@ -1,8 +1,8 @@
-use Rattle.std.proofs.Common.{◌≡◌, ◌<◌, ◌∙◌, refl, sym, subst, ap, rules, arith}
+use Rattle.std.proofs.Common.{◌≡◌, ◌∙◌, refl, sym, subst, ap, rules, arith}
 use Rattle.std.specs.Bool.{IsTrue}
 use Rattle.rdb_cells.specs.declared.formats.version.VersionHeader.{VersionHeader}
 use Rattle.rdb_cells.specs.Overlays.{Laid}
-use Rattle.rdb_cells.specs.Work.{Work, work, reading, IsBlank}
+use Rattle.rdb_cells.specs.Work.{Work, work, reading}
 use Rattle.rdb_cells.proofs.WorkLemmas.{put_work, take_work, put_is, take_is, put_reads, left_blank}
 use Rattle.rdb_objects.specs.Changes.{CanAdd}
 use Rattle.rdb_objects.specs.Objects.{newest_version}
@@ -40,5 +40,5 @@ returns-clause-holds g c =
     let taken = take_is g.C.Cells c.args.cells.now c.take-version.new.self w at refl c.take-version.ensures.taken in
     let after : work g.C.Cells c.put.new.self ≡ put_work (take_work w at) at c.to_cell.result = put_is g.C.Cells c.take-version.new.self c.put.new.self (take_work w at) at c.to_cell.result taken c.put.ensures.plan in
     let written = subst (λ (v : Work). HoldsSome (reading v) 0) (sym after)
-        (some_written (reading w) (reading (put_work (take_work w at) at c.to_cell.result)) at.number c.to_cell.result c.requires.holds blank.zero (put_reads (take_work w at) at c.to_cell.result)) in
+    (some_written (reading w) (reading (put_work (take_work w at) at c.to_cell.result)) at.number c.to_cell.result c.requires.holds blank.zero (put_reads (take_work w at) at c.to_cell.result)) in
     some_added 0 (work g.C.Cells c.put.new.self) (work g.C.Cells c.add_version.new.cells) c.args.id at c.add_version.ensures.adds written

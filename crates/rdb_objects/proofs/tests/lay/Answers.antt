@@ -1,6 +1,6 @@
-use Rattle.std.proofs.Common.{sym, subst, ◌∙◌, ap}
+use Rattle.std.proofs.Common.{sym, subst}
 use Rattle.rdb_cells.specs.Overlays.{Laid}
-use Rattle.rdb_cells.specs.Records.{Record, planned}
+use Rattle.rdb_cells.specs.Records.{planned}
 use Rattle.rdb_cells.specs.Work.{work, reading}
 use Rattle.rdb_objects.specs.Slots.{HoldsSome}
 use Rattle.rdb_objects.proofs.TestLemmas.{starts_empty}

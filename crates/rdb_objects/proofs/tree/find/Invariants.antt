@@ -1,4 +1,4 @@
-use Rattle.std.proofs.Common.{ℕ, List}
+use Rattle.std.proofs.Common.{List}
 use Rattle.rdb_objects.specs.Slots.{Slot, AreSlots}
 use Rattle.rdb_objects.proofs.WalkLemmas.{IsSought}
 use Rattle.rdb_objects.proofs.tree.find.Given as goal

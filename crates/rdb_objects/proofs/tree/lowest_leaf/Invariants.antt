@@ -1,4 +1,4 @@
-use Rattle.std.proofs.Common.{ℕ, List}
+use Rattle.std.proofs.Common.{List}
 use Rattle.rdb_objects.specs.Slots.{Path, Slot, AreSlots}
 use Rattle.rdb_objects.specs.Walks.{IsSpot}
 use Rattle.rdb_objects.proofs.WalkLemmas.{IsDescended}

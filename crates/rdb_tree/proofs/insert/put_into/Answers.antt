@@ -51,7 +51,7 @@ returns-then-as_slice-le-TREE_KEYS-clause-work g c = λ keys children is.
     record {
       fit = omega arith;
       work = put_is g.C.Cells c.args.cells.now c.put.new.self (work g.C.Cells c.args.cells.now) c.args.step.at c.to_cell.result refl c.put.ensures.plan
-        ∙ ap (put_work (work g.C.Cells c.args.cells.now) c.args.step.at) (c.to_cell.ensures.value ∙ ap tree_node_cell (c.node_of-node.ensures.node ∙ ap₂ node_with (c.as_slice-then-as_slice-le-TREE_KEYS.ensures ∙ own) (c.as_slice-then-as_slice-le-TREE_KEYS-2.ensures ∙ below)));
+          ∙ ap (put_work (work g.C.Cells c.args.cells.now) c.args.step.at) (c.to_cell.ensures.value ∙ ap tree_node_cell (c.node_of-node.ensures.node ∙ ap₂ node_with (c.as_slice-then-as_slice-le-TREE_KEYS.ensures ∙ own) (c.as_slice-then-as_slice-le-TREE_KEYS-2.ensures ∙ below)));
     }
 
 pub split-requires-clause-versions : goal.split-requires-clause-versions
@@ -70,7 +70,7 @@ split-requires-clause-children g c =
     let children = c.as_slice-3.ensures ∙ c.with_child-children.ensures ∙ ap (raised_children c.args.step.place c.args.raised.right) (c.children_of.ensures ∙ node_children (reading (work g.C.Cells c.args.cells.now)) c.args.step.at c.requires.node.0 c.requires.node.1 c.requires.node.2 c.node_at-node.result c.node_at-node.ensures) in
     subst (λ (ks : List CellRef). FitsKeys ks c.as_slice-3.result.now) (sym keys)
     (subst (λ (cs : List CellRef). FitsKeys (raised_keys c.args.step.place c.args.raised.key c.requires.node.0) cs) (sym children)
-     (raised_fits c.args.step.place c.args.raised.key c.args.raised.right c.requires.node.0 c.requires.node.1 c.requires.node.3 c.requires.node.2.fits))
+    (raised_fits c.args.step.place c.args.raised.key c.args.raised.right c.requires.node.0 c.requires.node.1 c.requires.node.3 c.requires.node.2.fits))
 
 pub returns-clause-work : goal.returns-clause-work
 returns-clause-work g c = λ keys children is.

@@ -21,7 +21,7 @@ returns-clause-work g c =
     let first = put_is g.C.Cells c.take-right.new.self c.put.new.self (take_work w right) right c.to_cell.result taken c.put.ensures.plan in
     let second = put_is g.C.Cells c.put.new.self c.put-2.new.self (put_work (take_work w right) right c.to_cell.result) c.args.at c.to_cell-2.result first c.put-2.ensures.plan in
     let behind : c.to_cell.result ≡ cell_of (drop 4 c.args.versions.now) (drop 4 c.args.children.now) =
-        c.to_cell.ensures.value ∙ ap tree_node_cell (c.node_of-behind.ensures.node ∙ ap₂ node_with c.split_at.ensures.back c.halves_of.ensures.right) in
+    c.to_cell.ensures.value ∙ ap tree_node_cell (c.node_of-behind.ensures.node ∙ ap₂ node_with c.split_at.ensures.back c.halves_of.ensures.right) in
     let before : c.to_cell-2.result ≡ cell_of (take 3 c.args.versions.now) (take 4 c.args.children.now) =
-        c.to_cell-2.ensures.value ∙ ap tree_node_cell (c.node_of-before.ensures.node ∙ ap₂ node_with c.split_at-2.ensures.front c.halves_of.ensures.left) in
+    c.to_cell-2.ensures.value ∙ ap tree_node_cell (c.node_of-before.ensures.node ∙ ap₂ node_with c.split_at-2.ensures.front c.halves_of.ensures.left) in
     second ∙ ap₂ (λ (a b : Cell). put_work (put_work (take_work w right) right a) c.args.at b) behind before

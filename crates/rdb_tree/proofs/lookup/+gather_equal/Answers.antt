@@ -27,7 +27,7 @@ pub returns-then-node : goal.returns-then-node
 returns-then-node g t c = on_ok c.push_equal.result (c.push_equal.new.refs ≡ c.args.refs.now ++ filter (has_key (says (g.K.Keys.meaning c.args.keys.now) (g.C.Cells.image c.args.cells.now)) c.args.key.now) c.keys_of-own.result.now) ((h : ℕ) (b : BTree h) → IsTreeAt (g.C.Cells.image c.args.cells.now) c.args.at c.args.levels h b → AreKeyed (says (g.K.Keys.meaning c.args.keys.now) (g.C.Cells.image c.args.cells.now)) (versions h b) → c.push_equal.new.refs ≡ c.args.refs.now ++ filter (has_key (says (g.K.Keys.meaning c.args.keys.now) (g.C.Cells.image c.args.cells.now)) c.args.key.now) (versions h b)) (λ grown h b is keyed.
     grown
     ∙ ap (λ (rs : List CellRef). c.args.refs.now ++ filter (has_key (says (g.K.Keys.meaning c.args.keys.now) (g.C.Cells.image c.args.cells.now)) c.args.key.now) rs)
-      (c.keys_of-own.ensures ∙ at_keys (g.C.Cells.image c.args.cells.now) c.args.at c.args.levels h b is c.node_at-node.result c.node_at-node.ensures ∙ sym (leaf_versions (g.C.Cells.image c.args.cells.now) c.args.at c.args.levels h b is (sym (at_leaf (g.C.Cells.image c.args.cells.now) c.args.at c.args.levels h b is c.node_at-node.result c.node_at-node.ensures) ∙ c.if-node.true)))) c.push_equal.ensures
+    (c.keys_of-own.ensures ∙ at_keys (g.C.Cells.image c.args.cells.now) c.args.at c.args.levels h b is c.node_at-node.result c.node_at-node.ensures ∙ sym (leaf_versions (g.C.Cells.image c.args.cells.now) c.args.at c.args.levels h b is (sym (at_leaf (g.C.Cells.image c.args.cells.now) c.args.at c.args.levels h b is c.node_at-node.result c.node_at-node.ensures) ∙ c.if-node.true)))) c.push_equal.ensures
 
 pub children_of-children-requires : goal.children_of-children-requires
 children_of-children-requires g t c = at_few (g.C.Cells.image c.args.cells.now) c.args.at c.args.levels c.requires.tree.0 c.requires.tree.1 c.requires.tree.2 c.node_at-node.result c.node_at-node.ensures
@@ -50,10 +50,27 @@ gather_equal-requires g t c κs inside =
     let same = c.children_of-children.ensures ∙ at_children (g.C.Cells.image c.args.cells.now) c.args.at c.args.levels c.requires.tree.0 c.requires.tree.1 c.requires.tree.2 c.node_at-node.result c.node_at-node.ensures in
     let parts_many = (inner_parts (g.C.Cells.image c.args.cells.now) c.args.at c.args.levels c.requires.tree.0 c.requires.tree.1 c.requires.tree.2 (sym (at_leaf (g.C.Cells.image c.args.cells.now) c.args.at c.args.levels c.requires.tree.0 c.requires.tree.1 c.requires.tree.2 c.node_at-node.result c.node_at-node.ensures) ∙ c.if-node.false)).0 in
     let high = c.requires.tree.2.height in
-    let falls = c.decreases in
-    (omega arith, (inside.0, (inside.1.0, (inside.1.1, ((child.height, child.child,
-        subst (λ (cs : List CellRef). IsTreeAt (g.C.Cells.image c.args.cells.now) (get_or cs c.loop-place.place none) (c.args.levels - 1) child.height child.child) (sym same) child.is,
-        child_keyed (says (g.K.Keys.meaning c.args.keys.now) (g.C.Cells.image c.args.cells.now)) c.requires.tree.0 c.requires.tree.1 c.requires.tree.3 (versions child.height child.child) c.loop-place.place child.part (omega arith)), c.requires.key)))))
+    let falls = c.decreases in (
+      omega arith,
+      (
+        inside.0,
+        (
+          inside.1.0,
+          (
+            inside.1.1,
+            (
+              (
+                child.height,
+                child.child,
+                subst (λ (cs : List CellRef). IsTreeAt (g.C.Cells.image c.args.cells.now) (get_or cs c.loop-place.place none) (c.args.levels - 1) child.height child.child) (sym same) child.is,
+                child_keyed (says (g.K.Keys.meaning c.args.keys.now) (g.C.Cells.image c.args.cells.now)) c.requires.tree.0 c.requires.tree.1 c.requires.tree.3 (versions child.height child.child) c.loop-place.place child.part (omega arith),
+              ),
+              c.requires.key,
+            ),
+          ),
+        ),
+      ),
+    )
 
 pub gather_equal-requires-in-Greater : goal.gather_equal-requires-in-Greater
 gather_equal-requires-in-Greater g t c κs inside =
@@ -64,10 +81,27 @@ gather_equal-requires-in-Greater g t c κs inside =
     let same = c.children_of-children.ensures ∙ at_children (g.C.Cells.image c.args.cells.now) c.args.at c.args.levels c.requires.tree.0 c.requires.tree.1 c.requires.tree.2 c.node_at-node.result c.node_at-node.ensures in
     let parts_many = (inner_parts (g.C.Cells.image c.args.cells.now) c.args.at c.args.levels c.requires.tree.0 c.requires.tree.1 c.requires.tree.2 (sym (at_leaf (g.C.Cells.image c.args.cells.now) c.args.at c.args.levels c.requires.tree.0 c.requires.tree.1 c.requires.tree.2 c.node_at-node.result c.node_at-node.ensures) ∙ c.if-node.false)).0 in
     let high = c.requires.tree.2.height in
-    let falls = c.decreases in
-    (omega arith, (inside.0, (inside.1.0, (inside.1.1, ((child.height, child.child,
-        subst (λ (cs : List CellRef). IsTreeAt (g.C.Cells.image c.args.cells.now) (get_or cs c.loop-place.place none) (c.args.levels - 1) child.height child.child) (sym same) child.is,
-        child_keyed (says (g.K.Keys.meaning c.args.keys.now) (g.C.Cells.image c.args.cells.now)) c.requires.tree.0 c.requires.tree.1 c.requires.tree.3 (versions child.height child.child) c.loop-place.place child.part (omega arith)), c.requires.key)))))
+    let falls = c.decreases in (
+      omega arith,
+      (
+        inside.0,
+        (
+          inside.1.0,
+          (
+            inside.1.1,
+            (
+              (
+                child.height,
+                child.child,
+                subst (λ (cs : List CellRef). IsTreeAt (g.C.Cells.image c.args.cells.now) (get_or cs c.loop-place.place none) (c.args.levels - 1) child.height child.child) (sym same) child.is,
+                child_keyed (says (g.K.Keys.meaning c.args.keys.now) (g.C.Cells.image c.args.cells.now)) c.requires.tree.0 c.requires.tree.1 c.requires.tree.3 (versions child.height child.child) c.loop-place.place child.part (omega arith),
+              ),
+              c.requires.key,
+            ),
+          ),
+        ),
+      ),
+    )
 
 pub returns-in-Greater : goal.returns-in-Greater
 returns-in-Greater g t c = on_ok c.gather_equal-in-Greater.result ((h : ℕ) (b : BTree h) → IsTreeAt (g.C.Cells.image c.args.cells.now) (get_or c.children_of-children.result.now c.loop-place.place (record { number = 0 })) (c.args.levels - 1) h b → AreKeyed (says (g.K.Keys.meaning c.args.keys.now) (g.C.Cells.image c.args.cells.now)) (versions h b) → c.gather_equal-in-Greater.new.refs ≡ c.loop-place.refs ++ filter (has_key (says (g.K.Keys.meaning c.args.keys.now) (g.C.Cells.image c.args.cells.now)) c.args.key.now) (versions h b)) ((h : ℕ) (b : BTree h) → IsTreeAt (g.C.Cells.image c.args.cells.now) c.args.at c.args.levels h b → AreKeyed (says (g.K.Keys.meaning c.args.keys.now) (g.C.Cells.image c.args.cells.now)) (versions h b) → c.gather_equal-in-Greater.new.refs ≡ c.args.refs.now ++ filter (has_key (says (g.K.Keys.meaning c.args.keys.now) (g.C.Cells.image c.args.cells.now)) c.args.key.now) (versions h b)) (λ grown h b is keyed.
@@ -113,15 +147,31 @@ pub gather_equal-requires-2 : goal.gather_equal-requires-2
 gather_equal-requires-2 g t c κs inside =
     let none : CellRef = record { number = 0 } in
     let keys = ap (length {A = CellRef}) (c.keys_of-own.ensures ∙ at_keys (g.C.Cells.image c.args.cells.now) c.args.at c.args.levels c.requires.tree.0 c.requires.tree.1 c.requires.tree.2 c.node_at-node.result c.node_at-node.ensures) in
-    
     let child = inner_child (g.C.Cells.image c.args.cells.now) c.args.at c.args.levels c.requires.tree.0 c.requires.tree.1 c.requires.tree.2 (sym (at_leaf (g.C.Cells.image c.args.cells.now) c.args.at c.args.levels c.requires.tree.0 c.requires.tree.1 c.requires.tree.2 c.node_at-node.result c.node_at-node.ensures) ∙ c.if-node.false) (length c.keys_of-own.result.now) none (omega arith) in
     let same = c.children_of-children.ensures ∙ at_children (g.C.Cells.image c.args.cells.now) c.args.at c.args.levels c.requires.tree.0 c.requires.tree.1 c.requires.tree.2 c.node_at-node.result c.node_at-node.ensures in
     let parts_many = (inner_parts (g.C.Cells.image c.args.cells.now) c.args.at c.args.levels c.requires.tree.0 c.requires.tree.1 c.requires.tree.2 (sym (at_leaf (g.C.Cells.image c.args.cells.now) c.args.at c.args.levels c.requires.tree.0 c.requires.tree.1 c.requires.tree.2 c.node_at-node.result c.node_at-node.ensures) ∙ c.if-node.false)).0 in
     let high = c.requires.tree.2.height in
-    let falls = c.decreases in
-    (omega arith, (inside.0, (inside.1.0, (inside.1.1, ((child.height, child.child,
-        subst (λ (cs : List CellRef). IsTreeAt (g.C.Cells.image c.args.cells.now) (get_or cs (length c.keys_of-own.result.now) none) (c.args.levels - 1) child.height child.child) (sym same) child.is,
-        child_keyed (says (g.K.Keys.meaning c.args.keys.now) (g.C.Cells.image c.args.cells.now)) c.requires.tree.0 c.requires.tree.1 c.requires.tree.3 (versions child.height child.child) (length c.keys_of-own.result.now) child.part (omega arith)), c.requires.key)))))
+    let falls = c.decreases in (
+      omega arith,
+      (
+        inside.0,
+        (
+          inside.1.0,
+          (
+            inside.1.1,
+            (
+              (
+                child.height,
+                child.child,
+                subst (λ (cs : List CellRef). IsTreeAt (g.C.Cells.image c.args.cells.now) (get_or cs (length c.keys_of-own.result.now) none) (c.args.levels - 1) child.height child.child) (sym same) child.is,
+                child_keyed (says (g.K.Keys.meaning c.args.keys.now) (g.C.Cells.image c.args.cells.now)) c.requires.tree.0 c.requires.tree.1 c.requires.tree.3 (versions child.height child.child) (length c.keys_of-own.result.now) child.part (omega arith),
+              ),
+              c.requires.key,
+            ),
+          ),
+        ),
+      ),
+    )
 
 pub returns : goal.returns
 returns g t c = on_ok c.gather_equal-2.result ((h : ℕ) (b : BTree h) → IsTreeAt (g.C.Cells.image c.args.cells.now) (get_or c.children_of-children.result.now (length c.keys_of-own.result.now) (record { number = 0 })) (c.args.levels - 1) h b → AreKeyed (says (g.K.Keys.meaning c.args.keys.now) (g.C.Cells.image c.args.cells.now)) (versions h b) → c.gather_equal-2.new.refs ≡ c.loop-place.refs ++ filter (has_key (says (g.K.Keys.meaning c.args.keys.now) (g.C.Cells.image c.args.cells.now)) c.args.key.now) (versions h b)) ((h : ℕ) (b : BTree h) → IsTreeAt (g.C.Cells.image c.args.cells.now) c.args.at c.args.levels h b → AreKeyed (says (g.K.Keys.meaning c.args.keys.now) (g.C.Cells.image c.args.cells.now)) (versions h b) → c.gather_equal-2.new.refs ≡ c.args.refs.now ++ filter (has_key (says (g.K.Keys.meaning c.args.keys.now) (g.C.Cells.image c.args.cells.now)) c.args.key.now) (versions h b)) (λ grown h b is keyed.

@@ -14,7 +14,7 @@ pub returns-then-node : goal.returns-then-node
 returns-then-node g t c = on_ok c.extend_from_slice.result (c.extend_from_slice.new.self ≡ c.args.refs.now ++ c.keys_of-own.result.now) ((h : ℕ) (b : BTree h) → IsTreeAt (g.C.Cells.image c.args.cells.now) c.args.at c.args.levels h b → c.extend_from_slice.new.self ≡ c.args.refs.now ++ versions h b) (λ grown h b is.
     grown
     ∙ ap (λ (rs : List CellRef). c.args.refs.now ++ rs)
-      (c.keys_of-own.ensures ∙ at_keys (g.C.Cells.image c.args.cells.now) c.args.at c.args.levels h b is c.node_at-node.result c.node_at-node.ensures ∙ sym (leaf_versions (g.C.Cells.image c.args.cells.now) c.args.at c.args.levels h b is (sym (at_leaf (g.C.Cells.image c.args.cells.now) c.args.at c.args.levels h b is c.node_at-node.result c.node_at-node.ensures) ∙ c.if-node.true)))) c.extend_from_slice.ensures.ok
+    (c.keys_of-own.ensures ∙ at_keys (g.C.Cells.image c.args.cells.now) c.args.at c.args.levels h b is c.node_at-node.result c.node_at-node.ensures ∙ sym (leaf_versions (g.C.Cells.image c.args.cells.now) c.args.at c.args.levels h b is (sym (at_leaf (g.C.Cells.image c.args.cells.now) c.args.at c.args.levels h b is c.node_at-node.result c.node_at-node.ensures) ∙ c.if-node.true)))) c.extend_from_slice.ensures.ok
 
 pub children_of-children-requires : goal.children_of-children-requires
 children_of-children-requires g t c = at_few (g.C.Cells.image c.args.cells.now) c.args.at c.args.levels c.requires.0 c.requires.1 c.requires.2 c.node_at-node.result c.node_at-node.ensures
@@ -30,9 +30,17 @@ gather_versions-requires g t c κs within =
     let child = inner_child (g.C.Cells.image c.args.cells.now) c.args.at c.args.levels c.requires.0 c.requires.1 c.requires.2 (sym (at_leaf (g.C.Cells.image c.args.cells.now) c.args.at c.args.levels c.requires.0 c.requires.1 c.requires.2 c.node_at-node.result c.node_at-node.ensures) ∙ c.if-node.false) c.loop-place.place none (omega arith) in
     let same = c.children_of-children.ensures ∙ at_children (g.C.Cells.image c.args.cells.now) c.args.at c.args.levels c.requires.0 c.requires.1 c.requires.2 c.node_at-node.result c.node_at-node.ensures in
     let high = c.requires.2.height in
-    let falls = c.decreases in
-    (omega arith, (within, (child.height, child.child,
-        subst (λ (cs : List CellRef). IsTreeAt (g.C.Cells.image c.args.cells.now) (get_or cs c.loop-place.place none) (c.args.levels - 1) child.height child.child) (sym same) child.is)))
+    let falls = c.decreases in (
+      omega arith,
+      (
+        within,
+        (
+          child.height,
+          child.child,
+          subst (λ (cs : List CellRef). IsTreeAt (g.C.Cells.image c.args.cells.now) (get_or cs c.loop-place.place none) (c.args.levels - 1) child.height child.child) (sym same) child.is,
+        ),
+      ),
+    )
 
 pub loop-place-preserved : goal.loop-place-preserved
 loop-place-preserved g t c = λ h b is.
@@ -54,9 +62,17 @@ gather_versions-requires-2 g t c κs within =
     let child = inner_child (g.C.Cells.image c.args.cells.now) c.args.at c.args.levels c.requires.0 c.requires.1 c.requires.2 (sym (at_leaf (g.C.Cells.image c.args.cells.now) c.args.at c.args.levels c.requires.0 c.requires.1 c.requires.2 c.node_at-node.result c.node_at-node.ensures) ∙ c.if-node.false) (length c.keys_of-own.result.now) none (omega arith) in
     let same = c.children_of-children.ensures ∙ at_children (g.C.Cells.image c.args.cells.now) c.args.at c.args.levels c.requires.0 c.requires.1 c.requires.2 c.node_at-node.result c.node_at-node.ensures in
     let high = c.requires.2.height in
-    let falls = c.decreases in
-    (omega arith, (within, (child.height, child.child,
-        subst (λ (cs : List CellRef). IsTreeAt (g.C.Cells.image c.args.cells.now) (get_or cs (length c.keys_of-own.result.now) none) (c.args.levels - 1) child.height child.child) (sym same) child.is)))
+    let falls = c.decreases in (
+      omega arith,
+      (
+        within,
+        (
+          child.height,
+          child.child,
+          subst (λ (cs : List CellRef). IsTreeAt (g.C.Cells.image c.args.cells.now) (get_or cs (length c.keys_of-own.result.now) none) (c.args.levels - 1) child.height child.child) (sym same) child.is,
+        ),
+      ),
+    )
 
 pub returns : goal.returns
 returns g t c = on_ok c.gather_versions-2.result ((h : ℕ) (b : BTree h) → IsTreeAt (g.C.Cells.image c.args.cells.now) (get_or c.children_of-children.result.now (length c.keys_of-own.result.now) (record { number = 0 })) (c.args.levels - 1) h b → c.gather_versions-2.new.refs ≡ c.loop-place.refs ++ versions h b) ((h : ℕ) (b : BTree h) → IsTreeAt (g.C.Cells.image c.args.cells.now) c.args.at c.args.levels h b → c.gather_versions-2.new.refs ≡ c.args.refs.now ++ versions h b) (λ grown h b is.

@@ -40,12 +40,13 @@ loop-preserved g c =
     let few : c.node_at-node.result.count ≤ most_keys = here_few (says (g.K.Keys.meaning c.args.keys.now) (g.C.Cells.image c.args.cells.now)) (g.C.Cells.image c.args.cells.now) c.loop.at (here_is (says (g.K.Keys.meaning c.args.keys.now) (g.C.Cells.image c.args.cells.now)) (g.C.Cells.image c.args.cells.now) c.loop.at c.args.place.now c.args.up c.requires.rooted.0 c.loop.best c.loop.counter (c.loop.invariant.0 c.requires.rooted.0 c.requires.rooted.1) (eqb-false c.loop.at.number 0 (sym c.eq.ensures ∙ c.if-eq.false))) c.node_at-node.result c.node_at-node.ensures in
     let row : length c.keys_of-versions.result.now ≤ c.node_at-node.result.count = take_within c.node_at-node.result.count c.node_at-node.result.versions c.keys_of-versions.result.now keys in
     let counted = c.count_near-near.ensures.steps in
-    let so_far = c.loop.invariant.1 in
-    ((λ whole rooted. sought_more (says (g.K.Keys.meaning c.args.keys.now) (g.C.Cells.image c.args.cells.now)) (g.C.Cells.image c.args.cells.now) c.args.place.now c.args.up whole c.loop.at c.loop.best c.loop.counter c.node_at-node.result c.count_near-near.result c.child_at-at.result c.nearest-best.result
-        c.node_at-node.ensures
-        (c.count_near-near.ensures.count ∙ ap (prefix_len (is_near (says (g.K.Keys.meaning c.args.keys.now) (g.C.Cells.image c.args.cells.now)) c.args.place.now c.args.up)) keys)
-        (c.nearest-best.ensures ∙ ap (λ (ks : List CellRef). first_of (key_beyond c.args.up c.count_near-near.result ks) c.loop.best) keys)
-        c.child_at-at.ensures
-        (c.loop.invariant.0 whole rooted)
-        (eqb-false c.loop.at.number 0 (sym c.eq.ensures ∙ c.if-eq.false))),
-     omega arith)
+    let so_far = c.loop.invariant.1 in (
+      (λ whole rooted. sought_more (says (g.K.Keys.meaning c.args.keys.now) (g.C.Cells.image c.args.cells.now)) (g.C.Cells.image c.args.cells.now) c.args.place.now c.args.up whole c.loop.at c.loop.best c.loop.counter c.node_at-node.result c.count_near-near.result c.child_at-at.result c.nearest-best.result
+          c.node_at-node.ensures
+          (c.count_near-near.ensures.count ∙ ap (prefix_len (is_near (says (g.K.Keys.meaning c.args.keys.now) (g.C.Cells.image c.args.cells.now)) c.args.place.now c.args.up)) keys)
+          (c.nearest-best.ensures ∙ ap (λ (ks : List CellRef). first_of (key_beyond c.args.up c.count_near-near.result ks) c.loop.best) keys)
+          c.child_at-at.ensures
+          (c.loop.invariant.0 whole rooted)
+          (eqb-false c.loop.at.number 0 (sym c.eq.ensures ∙ c.if-eq.false))),
+      omega arith,
+    )

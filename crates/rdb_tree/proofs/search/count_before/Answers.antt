@@ -13,7 +13,7 @@ returns-in_default g c =
     let version_of = (g.K.Keys.meaning c.args.keys.now).version_of (g.C.Cells.image c.args.cells.now) in
     stops (is_before (says (g.K.Keys.meaning c.args.keys.now) (g.C.Cells.image c.args.cells.now)) c.args.version) c.args.versions.now c.loop-place.place none c.loop-place.invariant c.loop-place-test.true
     (test_both is_lt (version_of (get_or c.args.versions.now c.loop-place.place none).number) (version_of c.args.version.number) c.order.result keyed c.requires.version c.order.ensures
-     ∙ not_less c.order.result c.in_default.not-Less)
+    ∙ not_less c.order.result c.in_default.not-Less)
 
 pub loop-place-preserved : goal.loop-place-preserved
 loop-place-preserved g c =
@@ -22,4 +22,4 @@ loop-place-preserved g c =
     let version_of = (g.K.Keys.meaning c.args.keys.now).version_of (g.C.Cells.image c.args.cells.now) in
     one_more (is_before (says (g.K.Keys.meaning c.args.keys.now) (g.C.Cells.image c.args.cells.now)) c.args.version) c.args.versions.now c.loop-place.place none c.loop-place.invariant c.loop-place-test.true
     (test_both is_lt (version_of (get_or c.args.versions.now c.loop-place.place none).number) (version_of c.args.version.number) c.order.result keyed c.requires.version c.order.ensures
-     ∙ ap is_lt c.in-Less.is)
+    ∙ ap is_lt c.in-Less.is)

@@ -13,7 +13,7 @@ returns-then-not-is_near_side-clause-count g c =
     let version_of = (g.K.Keys.meaning c.args.keys.now).version_of (g.C.Cells.image c.args.cells.now) in
     stops (goes (goes_near c.args.up) (says (g.K.Keys.meaning c.args.keys.now) (g.C.Cells.image c.args.cells.now)) c.args.key.now (Some c.args.id)) c.args.versions.now c.loop-place.place none c.loop-place.invariant.0 c.loop-place-test.true
     (test_key (goes_near c.args.up) (version_of (get_or c.args.versions.now c.loop-place.place none).number) c.args.key.now (Some c.args.id) c.against-order.result keyed c.against-order.ensures.order
-     ∙ sym c.is_near_side.ensures ∙ c.if-not-is_near_side.true)
+    ∙ sym c.is_near_side.ensures ∙ c.if-not-is_near_side.true)
 
 pub loop-place-preserved : goal.loop-place-preserved
 loop-place-preserved g c =
@@ -21,8 +21,9 @@ loop-place-preserved g c =
     let keyed = c.requires.keyed (get_or c.args.versions.now c.loop-place.place none) (within c.args.versions.now c.loop-place.place none c.loop-place-test.true) in
     let version_of = (g.K.Keys.meaning c.args.keys.now).version_of (g.C.Cells.image c.args.cells.now) in
     let step = c.against-order.ensures.step in
-    let so_far = c.loop-place.invariant.1 in
-    (one_more (goes (goes_near c.args.up) (says (g.K.Keys.meaning c.args.keys.now) (g.C.Cells.image c.args.cells.now)) c.args.key.now (Some c.args.id)) c.args.versions.now c.loop-place.place none c.loop-place.invariant.0 c.loop-place-test.true
-     (test_key (goes_near c.args.up) (version_of (get_or c.args.versions.now c.loop-place.place none).number) c.args.key.now (Some c.args.id) c.against-order.result keyed c.against-order.ensures.order
-      ∙ sym c.is_near_side.ensures ∙ c.if-not-is_near_side.false),
-     omega arith)
+    let so_far = c.loop-place.invariant.1 in (
+      one_more (goes (goes_near c.args.up) (says (g.K.Keys.meaning c.args.keys.now) (g.C.Cells.image c.args.cells.now)) c.args.key.now (Some c.args.id)) c.args.versions.now c.loop-place.place none c.loop-place.invariant.0 c.loop-place-test.true
+          (test_key (goes_near c.args.up) (version_of (get_or c.args.versions.now c.loop-place.place none).number) c.args.key.now (Some c.args.id) c.against-order.result keyed c.against-order.ensures.order
+          ∙ sym c.is_near_side.ensures ∙ c.if-not-is_near_side.false),
+      omega arith,
+    )

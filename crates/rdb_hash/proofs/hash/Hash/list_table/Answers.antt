@@ -1,4 +1,4 @@
-use Rattle.std.proofs.Common.{◌≡◌, ◌++◌, refl, sym, ap, ◌∙◌, arith, rules}
+use Rattle.std.proofs.Common.{sym, arith}
 use Rattle.std.proofs.lemmas.List.{append-nil}
 use Rattle.rdb_hash.proofs.ListLemmas.{has_bucket, listed_bucket, table_listed}
 use Rattle.rdb_hash.proofs.hash.Hash.list_table.Goals as goal

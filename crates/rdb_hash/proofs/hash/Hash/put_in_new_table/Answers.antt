@@ -40,7 +40,7 @@ returns-clause-put g c =
     let second = subst (λ (v : Work). IsNextUntaken v.pairs v.below v.class_of v.class v.taken made.number) taken c.take-table.ensures.lowest in
     let table_says : (table_in c.to_cell.result).buckets ≡ slice_set (replicate table_buckets no_ref) c.args.bucket.place place = ap (λ (t : Buckets). t.buckets) c.to_cell.ensures.inverse in
     let head_says : (index_head_in c.to_cell-3.result).roots ≡ slice_set (index_head_in c.planned.result.now).roots c.args.bucket.table made =
-        ap (λ (h : Head). h.roots) c.to_cell-3.ensures.inverse ∙ ap (λ (h : Head). slice_set h.roots c.args.bucket.table made) c.of_cell-head.ensures.value in
+    ap (λ (h : Head). h.roots) c.to_cell-3.ensures.inverse ∙ ap (λ (h : Head). slice_set h.roots c.args.bucket.table made) c.of_cell-head.ensures.value in
     subst (λ (v : Work). IsPutHashed (hash_nature c.args.self.now.class c.args.self.now.head.number) w v c.args.version c.args.hash) (sym with_head)
     (put_in_new_table c.args.self.now.class c.args.self.now.head place made c.args.version c.args.hash c.args.bucket.table c.args.bucket.place w c.planned.result.now c.to_cell.result c.to_cell-2.result c.to_cell-3.result
     c.requires.tables c.requires.root c.planned.ensures.planned c.take-place.ensures.lowest second c.to_cell.ensures.kind table_says c.to_cell-2.ensures.kind c.to_cell-2.ensures.inverse c.to_cell-3.ensures.kind head_says c.requires.bucket.table c.requires.bucket.place c.requires.bucket.number)

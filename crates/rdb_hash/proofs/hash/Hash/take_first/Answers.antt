@@ -1,4 +1,4 @@
-use Rattle.std.proofs.Common.{◌≡◌, ◌<◌, length, get_or, slice_get, slice_set, Some, refl, sym, ap, subst, ◌∙◌, arith, rules}
+use Rattle.std.proofs.Common.{◌≡◌, ◌<◌, length, get_or, slice_get, slice_set, Some, refl, sym, ap, subst, ◌∙◌, arith}
 use Rattle.rdb_pages.specs.Pages.{zero_cell}
 use Rattle.rdb_cells.specs.declared.formats.hash.HashTable.{HashTable as Buckets}
 use Rattle.rdb_cells.specs.declared.formats.heads.IndexHead.{IndexHead as Head}
@@ -21,8 +21,8 @@ pub planned-requires-2 : goal.planned-requires-2
 planned-requires-2 g c =
     let root = get_or c.of_cell-head.result.roots c.args.bucket.table no_ref in
     let read : slice_get (index_head_in c.planned.result.now).roots c.args.bucket.table ≡ Some root =
-        got_or (index_head_in c.planned.result.now).roots c.args.bucket.table no_ref c.requires.table
-        ∙ ap (λ (h : Head). Some (get_or h.roots c.args.bucket.table no_ref)) (sym c.of_cell-head.ensures.value) in
+    got_or (index_head_in c.planned.result.now).roots c.args.bucket.table no_ref c.requires.table
+    ∙ ap (λ (h : Head). Some (get_or h.roots c.args.bucket.table no_ref)) (sym c.of_cell-head.ensures.value) in
     table_there_cell c.args.self.now.class c.args.self.now.head c.args.version c.args.bucket.table c.args.bucket.place (work g.C.Cells c.args.cells.now) c.args.found c.requires.tables c.requires.found c.requires.table c.requires.place c.requires.first c.planned.result.now root c.planned.ensures.planned read
 
 pub put-requires-clause-named : goal.put-requires-clause-named
@@ -53,13 +53,13 @@ returns-then-are_none-clause-removed g c =
     let w = work g.C.Cells c.args.cells.now in
     let root = get_or c.of_cell-head.result.roots c.args.bucket.table no_ref in
     let read : slice_get (index_head_in c.planned.result.now).roots c.args.bucket.table ≡ Some root =
-        got_or (index_head_in c.planned.result.now).roots c.args.bucket.table no_ref c.requires.table
-        ∙ ap (λ (h : Head). Some (get_or h.roots c.args.bucket.table no_ref)) (sym c.of_cell-head.ensures.value) in
+    got_or (index_head_in c.planned.result.now).roots c.args.bucket.table no_ref c.requires.table
+    ∙ ap (λ (h : Head). Some (get_or h.roots c.args.bucket.table no_ref)) (sym c.of_cell-head.ensures.value) in
     let gone = put_is g.C.Cells c.args.cells.now c.put.new.self w c.args.found.at zero_cell refl c.put.ensures.plan in
     let dropped = put_is g.C.Cells c.put.new.self c.put-then-are_none.new.self (put_work w c.args.found.at zero_cell) root zero_cell gone c.put-then-are_none.ensures.plan in
     let headed = put_is g.C.Cells c.put-then-are_none.new.self c.put-then-are_none-2.new.self (put_work (put_work w c.args.found.at zero_cell) root zero_cell) c.args.self.now.head c.to_cell.result dropped c.put-then-are_none-2.ensures.plan in
     let head_says : (index_head_in c.to_cell.result).roots ≡ slice_set (index_head_in c.planned.result.now).roots c.args.bucket.table no_ref =
-        ap (λ (h : Head). h.roots) c.to_cell.ensures.inverse ∙ ap (λ (h : Head). slice_set h.roots c.args.bucket.table no_ref) c.of_cell-head.ensures.value in
+    ap (λ (h : Head). h.roots) c.to_cell.ensures.inverse ∙ ap (λ (h : Head). slice_set h.roots c.args.bucket.table no_ref) c.of_cell-head.ensures.value in
     let rest = slice_set c.of_cell.result.buckets c.args.bucket.place c.args.found.next in
     let rest_is : rest ≡ slice_set (table_in c.planned-2.result.now).buckets c.args.bucket.place c.args.found.next = ap (λ (t : Buckets). slice_set t.buckets c.args.bucket.place c.args.found.next) c.of_cell.ensures.value in
     subst (λ (v : Work). IsRemovedByAny (hash_nature c.args.self.now.class c.args.self.now.head.number) w v c.args.version) (sym headed)
@@ -71,8 +71,8 @@ returns-else-are_none-clause-removed g c =
     let w = work g.C.Cells c.args.cells.now in
     let root = get_or c.of_cell-head.result.roots c.args.bucket.table no_ref in
     let read : slice_get (index_head_in c.planned.result.now).roots c.args.bucket.table ≡ Some root =
-        got_or (index_head_in c.planned.result.now).roots c.args.bucket.table no_ref c.requires.table
-        ∙ ap (λ (h : Head). Some (get_or h.roots c.args.bucket.table no_ref)) (sym c.of_cell-head.ensures.value) in
+    got_or (index_head_in c.planned.result.now).roots c.args.bucket.table no_ref c.requires.table
+    ∙ ap (λ (h : Head). Some (get_or h.roots c.args.bucket.table no_ref)) (sym c.of_cell-head.ensures.value) in
     let gone = put_is g.C.Cells c.args.cells.now c.put.new.self w c.args.found.at zero_cell refl c.put.ensures.plan in
     let led = put_is g.C.Cells c.put.new.self c.put-else-are_none.new.self (put_work w c.args.found.at zero_cell) root c.to_cell-else-are_none.result gone c.put-else-are_none.ensures.plan in
     let rest = slice_set c.of_cell.result.buckets c.args.bucket.place c.args.found.next in

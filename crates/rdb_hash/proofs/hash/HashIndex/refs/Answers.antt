@@ -1,4 +1,4 @@
-use Rattle.std.proofs.Common.{◌≡◌, refl, arith, rules}
+use Rattle.std.proofs.Common.{arith}
 use Rattle.rdb_hash.proofs.ListLemmas.{one_table_more, all_listed}
 use Rattle.rdb_hash.proofs.hash.HashIndex.refs.Goals as goal
 

@@ -22,7 +22,7 @@ returns-clause-first g c = λ listed nodes is.
 
 pub returns-clause-bound : goal.returns-clause-bound
 returns-clause-bound g c = λ listed nodes is. (
-    levels_of is.tree,
-    subst (λ (rs : List CellRef). AreLevels (levels_of is.tree) (length rs)) (sym is.listed_is) (are_levels is.tree is.shape),
-    c.seek_from.ensures.bound is.tree (tree_rooted c.args.self.now.head.number (says (g.K.Keys.meaning c.args.keys.now) (g.C.Cells.image c.args.cells.now)) (g.C.Cells.image c.args.cells.now) listed nodes is c.root_in-root.result (root_read (g.C.Cells.image c.args.cells.now) c.args.self.now.head.number (root_of is.tree) c.root_in-root.result c.read.result.now is.leads c.read.ensures c.root_in-root.ensures)),
-  )
+  levels_of is.tree,
+  subst (λ (rs : List CellRef). AreLevels (levels_of is.tree) (length rs)) (sym is.listed_is) (are_levels is.tree is.shape),
+  c.seek_from.ensures.bound is.tree (tree_rooted c.args.self.now.head.number (says (g.K.Keys.meaning c.args.keys.now) (g.C.Cells.image c.args.cells.now)) (g.C.Cells.image c.args.cells.now) listed nodes is c.root_in-root.result (root_read (g.C.Cells.image c.args.cells.now) c.args.self.now.head.number (root_of is.tree) c.root_in-root.result c.read.result.now is.leads c.read.ensures c.root_in-root.ensures)),
+)

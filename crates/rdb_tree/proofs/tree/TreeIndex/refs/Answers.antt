@@ -26,6 +26,6 @@ pub returns : goal.returns
 returns g c = λ said listed nodes is.
     let whole = tree_at c.args.self.now.head.number said (g.C.Cells.image c.args.cells.now) listed nodes is c.root_in-root.result (root_read (g.C.Cells.image c.args.cells.now) c.args.self.now.head.number (root_of is.tree) c.root_in-root.result c.read.result.now is.leads c.read.ensures c.root_in-root.ensures) (eqb-false c.root_in-root.result.number 0 (sym c.eq.ensures ∙ c.if-eq.false)) in
     let same = c.in_ok-gather_versions.ensures whole.h whole.t whole.is
-        ∙ ap (λ (rs : List CellRef). rs ++ versions whole.h whole.t) c.new-refs.ensures
-        ∙ sym whole.listed_is in
+    ∙ ap (λ (rs : List CellRef). rs ++ versions whole.h whole.t) c.new-refs.ensures
+    ∙ sym whole.listed_is in
     subst (λ (rs : List CellRef). IsPermutation c.gather_versions.new.refs rs) same (IsPermutation-refl c.gather_versions.new.refs)
