@@ -5,7 +5,7 @@ use crate::state::{State, reader_of};
 use rdb_base::identity::{ConnId, TxId};
 use rdb_base::list::NoMemory;
 use rdb_base::operation::{Op, Reply};
-use rdb_cells::{HasPairs, Refs, Settled, Undo};
+use rdb_cells::{HasPairs, Index, Refs, Settled, Undo};
 use rdb_cursor::{Marks, lookup, refusal};
 use rdb_pages::Pages;
 use rdb_registry::Registry;

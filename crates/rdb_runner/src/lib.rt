@@ -2,13 +2,16 @@
 #![tactic(auto)]
 
 pub mod check;
+mod client;
 pub mod command_line;
 #[cfg(test)]
 mod generated_job_tests;
 mod halt;
+mod names;
 mod part_reading;
 mod plain_job;
 mod plain_run;
+mod playing;
 pub mod reading;
 pub mod region;
 pub mod replay;
@@ -16,3 +19,4 @@ pub mod schema_reading;
 mod telling;
 #[cfg(test)]
 mod tests;
+pub mod world_job;

@@ -11,66 +11,13 @@ ghost use Rattle.rdb_runner.specs.SchemaFile.{IsChecked, IsBadSchema, HasBadSche
 ghost use Rattle.rdb_runner.specs.Telling.{Writes, IsSilent, ink_of, Shows};
 
 use crate::check::check;
-use crate::command_line::{self, CommandLine, Settings};
-use crate::replay::{Job, replay};
-use crate::telling::{NO_MEMORY, tell};
+use crate::command_line::{self, CommandLine};
+use crate::telling::tell;
+use crate::world_job::replay_job;
 use rdb_base::files::Files;
 use rdb_base::gate::Gate;
-use rdb_base::list::{List, NoMemory};
 use rdb_base::sink::Sink;
-use rdb_base::text::Text;
 use std::alloc::Global;
-
-/// The job of these settings and names, with one client.
-fn job_of(
-    alloc: Global,
-    settings: Settings,
-    schema: &str,
-    schedule: &str,
-    client: &str,
-) -> Result<Job, NoMemory>
-    ensures { IfOk result (λ job. (files_of job ≡ names_of schema.now schedule.now client.now) × (job.pages ≡ settings.pages)) }
-{
-    let mut clients = List::new(alloc);
-    clients.push(Text::of(alloc, client)?)?;
-    Ok(Job {
-        manager: settings.manager,
-        pages: settings.pages,
-        schema: Text::of(alloc, schema)?,
-        schedule: Text::of(alloc, schedule)?,
-        clients,
-    })
-}
-
-/// Replays the job of these settings and names.
-fn replay_job<F: Files, K: Sink>(
-    alloc: Global,
-    settings: Settings,
-    schema: &str,
-    schedule: &str,
-    client: &str,
-    files: &mut F,
-    out: &mut K,
-) -> u8
-    requires pages { (1 ≤ settings.pages) × (settings.pages ≤ 16384) }
-    ensures { JobEnds (names_of schema.now schedule.now client.now) (sight_of F.told F.asked F.faults files.old files.new) (ink_of K.written K.faults out.old out.new) result }
-{
-    match job_of(alloc, settings, schema, schedule, client) {
-        Ok(job) => replay(alloc, &job, files, out),
-        Err(_) => NO_MEMORY,
-    }
-}
-
-/// The client, where there is exactly one.
-fn only_client<'a>(clients: &[&'a str]) -> Option<&'a str>
-    ensures some { IfSome result (λ client. texts clients.now ≡ client.now ∷ []) }
-    ensures none { IfNone result (length clients.now ≢ 1) }
-{
-    match clients {
-        [client] => Some(client),
-        _ => None,
-    }
-}
 
 /// What a command line ends with.
 fn end_command<F: Files, K: Sink>(
@@ -88,10 +35,15 @@ fn end_command<F: Files, K: Sink>(
             schema,
             schedule,
             clients,
-        } => match only_client(clients.as_slice()) {
-            Some(client) => replay_job(alloc, *settings, schema, schedule, client, files, out),
-            None => tell(out, 10, b"regiondb: not built replay\n"),
-        },
+        } => replay_job(
+            alloc,
+            *settings,
+            schema,
+            schedule,
+            clients.as_slice(),
+            files,
+            out,
+        ),
         CommandLine::Check { schema } => check(alloc, schema, files, out),
         CommandLine::Run { .. } => tell(out, 10, b"regiondb: not built run\n"),
         CommandLine::Audit { .. } => tell(out, 10, b"regiondb: not built audit\n"),
