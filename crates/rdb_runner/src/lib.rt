@@ -19,4 +19,6 @@ pub mod schema_reading;
 mod telling;
 #[cfg(test)]
 mod tests;
+#[cfg(test)]
+mod worked_tests;
 pub mod world_job;
