@@ -11,6 +11,7 @@ use rdb_pages::Pages;
 use rdb_registry::Registry;
 
 /// The marks that stand in the records.
+#[derive(Clone, Copy)]
 struct MarksOf<'a> {
     registry: &'a Registry,
 }
