@@ -1,7 +1,14 @@
 //! The one public type: a region with its records and its journal.
 
 use crate::answer::{Answer, Standing, Tended};
-use crate::state::State;
+use crate::act::act;
+use crate::commit::{commit, roll_back};
+use crate::go::go;
+use crate::reading::listed;
+use crate::sessions::{begin, condemn, disconnect};
+use crate::standing::{phase, standing};
+use crate::tend::tend;
+use crate::watch::{poll, watch};
 use rdb_base::identity::{ConnId, Kind, Manager, Phase};
 use rdb_base::list::NoMemory;
 use rdb_base::operation::Op;
@@ -10,6 +17,7 @@ use rdb_history::journal::Journal;
 use rdb_pages::{Cell, CellRef, Pages, RawPages};
 use rdb_registry::ConnectFault;
 use rdb_schema::schema::Schema;
+use rdb_steps::State;
 use std::alloc::Global;
 
 /// One shared region over any pages, with its records and its journal. Each call by a connection is one step, which changes at most one
@@ -60,54 +68,54 @@ impl<P: Pages> WorldOver<P> {
     /// Begins a transaction of an idle connection: Ready(Begun). Busy only under MURSIW: for a writer where another transaction is open, for
     /// a reader where a writer is open; it names the lowest such connection.
     pub fn begin(&mut self, c: ConnId, kind: Kind) -> Answer {
-        self.state.begin(c, kind)
+        begin(&mut self.state, c, kind)
     }
 
     /// Begins an operation of a running transaction. A read is Ready(Did). A write is Ready(Did), More, Busy or Full.
     pub fn act(&mut self, c: ConnId, op: &Op) -> Answer {
-        self.state.act(c, op)
+        act(&mut self.state, c, op)
     }
 
     /// Goes on with a write, a roll-back or a stamping: More, or Ready as the call that began it; Full while writing; Busy where a roll-back
     /// or a stamping needs a latch that another connection holds. It takes no memory.
     pub fn go(&mut self, c: ConnId) -> Answer {
-        self.state.go(c)
+        go(&mut self.state, c)
     }
 
     /// Commits a running transaction: Ready(Ended) where it only read; else More, Ready(Committed), or under MVCC Conflict. It takes no
     /// memory.
     pub fn commit(&mut self, c: ConnId) -> Answer {
-        self.state.commit(c)
+        commit(&mut self.state, c)
     }
 
     /// Rolls a running transaction back: Ready(RolledBack) where nothing was written, else More. It takes no memory.
     pub fn roll_back(&mut self, c: ConnId) -> Answer {
-        self.state.roll_back(c)
+        roll_back(&mut self.state, c)
     }
 
     /// Watches an event from here on: Ready(Watching).
     pub fn watch(&mut self, c: ConnId, class: u32, event: u32) -> Answer {
-        self.state.watch(c, class, event)
+        watch(&mut self.state, c, class, event)
     }
 
     /// Tells the next event that is watched: Ready(Event), or Ready(NoEvent) where none is left. It takes no memory.
     pub fn poll(&mut self, c: ConnId, class: u32, event: u32) -> Answer {
-        self.state.poll(c, class, event)
+        poll(&mut self.state, c, class, event)
     }
 
     /// Closes an idle connection: Ready(Closed). It takes no memory.
     pub fn disconnect(&mut self, c: ConnId) -> Answer {
-        self.state.disconnect(c)
+        disconnect(&mut self.state, c)
     }
 
     /// Condemns a connection: Ready(RolledBack). It takes no memory.
     pub fn condemn(&mut self, by: ConnId, d: ConnId) -> Answer {
-        self.state.condemn(by, d)
+        condemn(&mut self.state, by, d)
     }
 
     /// Makes one step of the repair of a connection that is condemned or isn't there. It takes no memory.
     pub fn tend(&mut self, by: ConnId, d: ConnId) -> Tended {
-        self.state.tend(by, d)
+        tend(&mut self.state, by, d)
     }
 
     /// The schema, lent.
@@ -117,7 +125,7 @@ impl<P: Pages> WorldOver<P> {
 
     /// How a connection stands.
     pub fn standing(&self, c: ConnId, event: Option<(u32, u32)>) -> Standing {
-        self.state.standing(c, event)
+        standing(&self.state, c, event)
     }
 
     /// The journal, lent.
@@ -132,11 +140,11 @@ impl<P: Pages> WorldOver<P> {
 
     /// The versions that an index lists in the settled image. The only error is want of memory.
     pub fn index_refs(&self, class: u32, index: u32) -> Result<Refs, NoMemory> {
-        self.state.listed(class, index)
+        listed(&self.state, class, index)
     }
 
     /// What a connection is doing.
     pub fn phase(&self, c: ConnId) -> Phase {
-        self.state.phase(c)
+        phase(&self.state, c)
     }
 }

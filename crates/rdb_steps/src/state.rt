@@ -13,7 +13,6 @@ use rdb_access::accessors::Accessors;
 use rdb_base::identity::{ConnId, Kind, Manager, TxId};
 use rdb_base::list::{List, NoMemory};
 use rdb_cells::Undo;
-use rdb_cursor::Reader;
 use rdb_history::journal::Journal;
 use rdb_pages::{PAGE_CELLS, Pages};
 use rdb_registry::{Registry, Seat, Transaction};
@@ -26,7 +25,7 @@ use crate::claims::Claims;
 
 /// How many serials and ids were drawn. A number is never drawn twice.
 #[derive(Drop)]
-pub(crate) struct Counters {
+pub struct Counters {
     serials: u64,
     ids: Vec<u64>,
 }
@@ -47,7 +46,7 @@ impl Counters {
     }
 
     /// The next id of a class.
-    pub(crate) fn draw_id(&mut self, class: u32) -> u64 {
+    pub fn draw_id(&mut self, class: u32) -> u64 {
         let drawn = &mut self.ids[class as usize];
         *drawn += 1;
         *drawn
@@ -56,24 +55,24 @@ impl Counters {
 
 /// The data of a World.
 #[derive(Drop)]
-pub(crate) struct State<P: Pages> {
-    pub(crate) alloc: Global,
-    pub(crate) schema: Schema,
-    pub(crate) manager: Manager,
-    pub(crate) memory: RegionMemory<P>,
-    pub(crate) registry: Registry,
-    pub(crate) store: Store,
-    pub(crate) accessors: List<Accessors>,
-    pub(crate) counters: Counters,
-    pub(crate) journal: Journal,
-    pub(crate) claims: Claims,
-    pub(crate) spare_undo: Undo,
+pub struct State<P: Pages> {
+    pub alloc: Global,
+    pub schema: Schema,
+    pub manager: Manager,
+    pub memory: RegionMemory<P>,
+    pub registry: Registry,
+    pub store: Store,
+    pub accessors: List<Accessors>,
+    pub counters: Counters,
+    pub journal: Journal,
+    pub claims: Claims,
+    pub spare_undo: Undo,
 }
 
 impl<P: Pages> State<P> {
     /// A region over pages of which none is claimed, without a connection and with an empty journal. The cost grows with the pages and the
     /// schema. The only error is want of memory.
-    pub(crate) fn over(
+    pub fn over(
         alloc: Global,
         pages: P,
         schema: Schema,
@@ -100,12 +99,12 @@ impl<P: Pages> State<P> {
     }
 
     /// The record of a connection that is held.
-    pub(crate) fn seat(&self, c: ConnId) -> &Seat {
+    pub fn seat(&self, c: ConnId) -> &Seat {
         held(&self.registry, c)
     }
 
     /// The connection that holds the latch of a class, if it is another than this one.
-    pub(crate) fn other_holder(&self, c: ConnId, class: u32) -> Option<ConnId> {
+    pub fn other_holder(&self, c: ConnId, class: u32) -> Option<ConnId> {
         let holder = self.registry.holder(class)?;
         if holder == c { None } else { Some(holder) }
     }
@@ -151,7 +150,7 @@ pub(crate) fn held(registry: &Registry, c: ConnId) -> &Seat {
 }
 
 /// The open transaction of a record that has one.
-pub(crate) fn open_in(seat: &Seat) -> Transaction {
+pub fn open_in(seat: &Seat) -> Transaction {
     match seat.transaction {
         Some(transaction) => transaction,
         None => unreachable!(),
@@ -159,18 +158,10 @@ pub(crate) fn open_in(seat: &Seat) -> Transaction {
 }
 
 /// Whose versions the open transaction of a record makes.
-pub(crate) fn tx_of(seat: &Seat) -> TxId {
+pub fn tx_of(seat: &Seat) -> TxId {
     TxId {
         conn: seat.conn,
         number: open_in(seat).number,
-    }
-}
-
-/// Who reads in the open transaction of a record.
-pub(crate) fn reader_of(seat: &Seat) -> Reader {
-    Reader {
-        snapshot: open_in(seat).snapshot,
-        tx: tx_of(seat),
     }
 }
 
@@ -183,7 +174,7 @@ pub(crate) fn is_writing(seat: &Seat) -> bool {
 }
 
 /// Whether a record's open transaction is marked: its commit stands in the journal.
-pub(crate) fn is_marked(seat: &Seat) -> bool {
+pub fn is_marked(seat: &Seat) -> bool {
     match seat.transaction {
         Some(transaction) => transaction.mark.is_some(),
         None => false,

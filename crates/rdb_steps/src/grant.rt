@@ -5,7 +5,7 @@ use rdb_pages::Pages;
 
 impl<P: Pages> State<P> {
     /// Gives a class the lowest page without an owner, where there is one. The cost is constant.
-    pub(crate) fn grant(&mut self, class: u32) {
+    pub fn grant(&mut self, class: u32) {
         let _page = self.memory.grant(class);
     }
 }

@@ -21,12 +21,12 @@ impl<P: Pages> State<P> {
 
     /// The first garbage version of a class, by the least open snapshot. The cells are seen as they stand, so no version is found again
     /// whose drop the open writer has done.
-    pub(crate) fn garbage(&self, class: u32) -> Option<CellRef> {
+    pub fn garbage(&self, class: u32) -> Option<CellRef> {
         first_garbage(&self.memory, class, self.registry.least_snapshot())
     }
 
     /// Plans the drop of a version of a class whose latch the connection holds. The cost is that of the store's plan.
-    pub(crate) fn plan_drop(&mut self, c: ConnId, class: u32, version: CellRef) {
+    pub fn plan_drop(&mut self, c: ConnId, class: u32, version: CellRef) {
         let plan = self.plan_of(c);
         let mut overlay = Overlay::over(&self.memory, plan, class);
         self.store.plan_drop(class, version, &mut overlay);
@@ -35,7 +35,7 @@ impl<P: Pages> State<P> {
 
     /// Plans the drop of the first own version and takes its latch, where no other connection holds that; else it changes nothing and
     /// returns the holder.
-    pub(crate) fn plan_own_drop(&mut self, c: ConnId) -> Option<ConnId> {
+    pub fn plan_own_drop(&mut self, c: ConnId) -> Option<ConnId> {
         let own = self.first_own(c);
         if let Some(holder) = self.other_holder(c, own.class) {
             return Some(holder);
@@ -47,7 +47,7 @@ impl<P: Pages> State<P> {
 
     /// Makes the plan of the operation in work, whose claim is `need`: the version gets a new serial, an object that is made a new id, and
     /// the claim is spent.
-    pub(crate) fn plan_operation(&mut self, c: ConnId, class: u32, need: u32) {
+    pub fn plan_operation(&mut self, c: ConnId, class: u32, need: u32) {
         let serial = self.counters.draw_serial();
         let id = self.object_written(c, class);
         self.registry.spend(c.slot, class, need);

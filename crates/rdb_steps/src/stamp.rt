@@ -17,7 +17,7 @@ impl<P: Pages> State<P> {
 
     /// Stamps the first version that lacks its stamp, where no other connection holds the latch that a stamp needs under MVCC; else it
     /// changes nothing and returns the holder. The cost is constant.
-    pub(crate) fn stamp_first(&mut self, c: ConnId) -> Option<ConnId> {
+    pub fn stamp_first(&mut self, c: ConnId) -> Option<ConnId> {
         let own = self.first_own(c);
         if self.manager == Manager::Mvcc
             && let Some(holder) = self.other_holder(c, own.class)

@@ -14,7 +14,7 @@ use rdb_pages::Pages;
 
 /// How many places are claimed: of entries, and of writes of commits.
 #[derive(Clone, Copy, Debug, PartialEq, Eq)]
-pub(crate) struct Claims {
+pub struct Claims {
     pub(crate) entries: usize,
     pub(crate) writes: usize,
 }
