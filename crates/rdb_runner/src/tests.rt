@@ -16,8 +16,12 @@ const SCHEMA: &[u8] = b"declare database shop; class Item { uint4 n; autoid; };"
 /// A class of two fields.
 const PAIR: &[u8] = b"declare database shop; class Pair { uint4 a; uint4 b; autoid; };";
 
-/// A schema that a replay can't run yet.
+/// A class of a wider number.
 const WIDE: &[u8] = b"declare database shop; class Item { uint8 n; autoid; };";
+
+/// A schema that a replay can't run yet.
+const BOXED: &[u8] =
+    b"declare database shop; class Place { rect<int4> r; autoid; rtree<r> byR; };";
 
 /// A text that breaks off in its second word.
 const BROKEN: &[u8] = b"declare datab";
@@ -28,9 +32,6 @@ const CLIENT: &[u8] = b"begin rw\nnew Item {7}\nget Item 1\ncommit\n";
 
 /// A client that writes in a transaction that only reads.
 const FAULTY: &[u8] = b"begin ro\nnew Item {5}\ncommit\n";
-
-/// A client that isn't of the simplest form.
-const COUNTING: &[u8] = b"begin rw\ncount Item\ncommit\n";
 
 const REPORT: &[u8] =
     b"commit 1 client 1 tx 1 begun 0 snapshot 0\n  new Item {7} -> made 1\n  get Item 1 -> {7}\nclosed client 1\nclient 1 done\ntotal commits 1 reads 0 aborts 0 handled 0\n";
@@ -60,9 +61,9 @@ fn files(alloc: Global, failing: &[u32]) -> Result<MemoryFiles, NoMemory> {
     files.put("schedule", SCHEDULE)?;
     files.put("client1", CLIENT)?;
     files.put("nine", b"9")?;
-    files.put("steps", b"1 1 1 1")?;
     files.put("faulty", FAULTY)?;
-    files.put("counting", COUNTING)?;
+    files.put("boxed", BOXED)?;
+    files.put("idle", b"")?;
     Ok(files)
 }
 
@@ -153,16 +154,6 @@ fn each_refusal_has_its_status_and_line(rt: HostRuntime) -> Result<(), Fail> {
         ),
         ("replay wide nine client1", 6, "regiondb: schedule item 1\n"),
         (
-            "replay schema steps client1",
-            10,
-            "regiondb: not built steps\n",
-        ),
-        (
-            "replay schema schedule counting",
-            10,
-            "regiondb: not built counting\n",
-        ),
-        (
             "replay broken schedule client1",
             4,
             "regiondb: schema 1:9 unexpected\n",
@@ -178,16 +169,16 @@ fn each_refusal_has_its_status_and_line(rt: HostRuntime) -> Result<(), Fail> {
             "regiondb: schema 1:1 unexpected\n",
         ),
         (
-            "replay wide schedule client1",
+            "replay boxed schedule idle",
             10,
-            "regiondb: not built wide\n",
+            "regiondb: not built boxed\n",
         ),
         (
             "replay schema client1 client1",
             6,
             "regiondb: schedule item 1\n",
         ),
-        ("replay schema schedule", 10, "regiondb: not built replay\n"),
+        ("replay schema schedule", 6, "regiondb: schedule item 1\n"),
         ("run schema client1", 10, "regiondb: not built run\n"),
         ("audit schema schedule", 10, "regiondb: not built audit\n"),
         ("check nothing", 3, "regiondb: cannot read nothing\n"),
