@@ -1,11 +1,11 @@
 //! A client as it goes through its script: where it is, what it has been told, and how it ended. It touches nothing but itself.
 
-use crate::names::{Known, Names, known_by};
+use crate::names::Names;
 use rdb_base::identity::ConnId;
 use rdb_base::list::{List, NoMemory};
 use rdb_base::operation::{Op, Reply};
 use rdb_journal::endings::{End, Note, Notes};
-use rdb_script::unit::{Script, ScriptLine, Unit};
+use rdb_script::unit::{Script, ScriptLine, ScriptLines, Unit};
 use std::alloc::Global;
 
 /// Where a client is in its transaction.
@@ -105,36 +105,24 @@ impl<'a> Client<'a> {
         }
     }
 
-    /// The operation of a line, with what its name stands for; none where that is the line's own.
-    pub(crate) fn operation(&self, line: &ScriptLine) -> Result<Option<Op>, NoMemory> {
+    /// The operation of its line, with what its name stands for; none where that is the line's own.
+    pub(crate) fn operation(
+        &self,
+        lines: &ScriptLines,
+        line: &ScriptLine,
+    ) -> Result<Option<Op>, NoMemory> {
         match &line.from {
             None => Ok(None),
-            Some(name) => self
-                .names
-                .operation(self.script, (self.unit, self.line), name, &line.op),
+            Some(name) => self.names.operation(lines, self.line, name, &line.op),
         }
     }
 
-    /// Notes what a line that assigns a name was told, and goes on to the next line.
+    /// Notes what its line was told, and goes on to the next one.
     pub(crate) fn line_is_told(&mut self, reply: &Reply) -> Result<(), NoMemory> {
-        if self.assigns() {
-            let known: Known = known_by(reply)?;
-            self.names.tell((self.unit, self.line), known)?;
-        }
+        self.names.tell(self.line, reply)?;
         self.line += 1;
         self.stage = Stage::Line;
         Ok(())
-    }
-
-    // Whether its line assigns a name.
-    fn assigns(&self) -> bool {
-        match self.script.units.as_slice().get(self.unit) {
-            Some(Unit::Tx { lines, .. }) => match lines.as_slice().get(self.line) {
-                Some(line) => line.name.is_some(),
-                None => false,
-            },
-            _ => false,
-        }
     }
 
     /// Notes what a watch or a poll was told, and goes on to the next unit.
@@ -145,23 +133,20 @@ impl<'a> Client<'a> {
     }
 
     /// Goes on behind a transaction that ended: to the next unit, or to the same one anew after a conflict, where a retry is left.
-    pub(crate) fn transaction_ended(&mut self) -> Stepped {
-        if self.conflicted && self.retries < self.retries_allowed() {
+    pub(crate) fn transaction_ended(&mut self) -> Result<Stepped, NoMemory> {
+        let script = self.script;
+        let Some(Unit::Tx { retries, lines, .. }) = script.units.as_slice().get(self.unit) else {
+            unreachable!()
+        };
+        if self.conflicted && self.retries < *retries {
             self.retries += 1;
         } else {
+            self.names.leave(lines)?;
             self.unit += 1;
             self.retries = 0;
         }
         self.conflicted = false;
         self.stage = Stage::Start;
-        Stepped::UnitEnded
-    }
-
-    // How often its transaction may be begun again.
-    fn retries_allowed(&self) -> u32 {
-        match self.script.units.as_slice().get(self.unit) {
-            Some(Unit::Tx { retries, .. }) => *retries,
-            _ => 0,
-        }
+        Ok(Stepped::UnitEnded)
     }
 }

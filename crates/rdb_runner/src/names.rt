@@ -1,25 +1,23 @@
-//! What the names of a script stand for: each assigning line for what its last reply gave. It touches nothing but its own list.
+//! What the names of a script stand for: for what the last reply to their last line gave. It touches nothing but its own lists.
 
-use rdb_base::list::{List, NoMemory};
+use rdb_base::list::NoMemory;
 use rdb_base::operation::{Op, Place, Reply};
 use rdb_base::text::Text;
 use rdb_base::value::Row;
-use rdb_script::unit::{Script, ScriptLines, Unit};
+use rdb_script::unit::ScriptLines;
 use std::alloc::Global;
+use std::collections::BTreeMap;
 
-/// A line of a script: the number of its unit, and its number there, both from 0.
-pub(crate) type LinePlace = (usize, usize);
-
-/// What a reply gave.
+// What a reply gave.
 #[derive(Debug, Drop, PartialEq, Eq)]
-pub(crate) enum Known {
+enum Known {
     Nothing,
     Object(u64),
     Found { key: Row, id: u64 },
 }
 
-/// What a reply gives a name.
-pub(crate) fn known_by(reply: &Reply) -> Result<Known, NoMemory> {
+// What a reply gives a name.
+fn known_by(reply: &Reply) -> Result<Known, NoMemory> {
     Ok(match reply {
         Reply::Made(id) => Known::Object(*id),
         Reply::Ids(ids) => match ids.as_slice().first() {
@@ -34,17 +32,25 @@ pub(crate) fn known_by(reply: &Reply) -> Result<Known, NoMemory> {
     })
 }
 
-/// A line that assigns a name, and what its last reply gave.
-#[derive(Debug, Drop)]
-struct Telling {
-    line: LinePlace,
-    known: Known,
+// A copy of what a reply gave.
+fn copied(known: &Known) -> Result<Known, NoMemory> {
+    Ok(match known {
+        Known::Nothing => Known::Nothing,
+        Known::Object(id) => Known::Object(*id),
+        Known::Found { key, id } => Known::Found {
+            key: key.copy()?,
+            id: *id,
+        },
+    })
 }
 
-/// What each assigning line was told last.
+/// What the names of a script stand for at the lines of one of its transactions.
 #[derive(Debug, Drop)]
 pub(crate) struct Names {
-    told: List<Telling>,
+    /// What each name stands for behind the earlier transactions.
+    earlier: BTreeMap<Text, Known>,
+    /// What each line of the transaction was told last, up to the last one that was ever told.
+    told: Vec<Known>,
 }
 
 // The last of the first so many lines that assigns a name.
@@ -58,64 +64,56 @@ fn last_assigning(lines: &ScriptLines, count: usize, name: &Text) -> Option<usiz
     last
 }
 
-// The last line above a place that assigns a name.
-fn assigning_line(script: &Script, place: LinePlace, name: &Text) -> Option<LinePlace> {
-    let (mut unit, mut count) = place;
-    loop {
-        if let Some(Unit::Tx { lines, .. }) = script.units.as_slice().get(unit)
-            && let Some(line) = last_assigning(lines, count, name)
-        {
-            return Some((unit, line));
-        }
-        if unit == 0 {
-            return None;
-        }
-        unit -= 1;
-        count = usize::MAX;
-    }
-}
-
 impl Names {
-    /// No line was told anything.
+    /// No name is assigned.
     pub(crate) fn new(alloc: Global) -> Names {
         Names {
-            told: List::new(alloc),
+            earlier: BTreeMap::new(alloc),
+            told: Vec::new(alloc),
         }
     }
 
-    // The place in the list of what a line was told.
-    fn find(&self, line: LinePlace) -> Option<usize> {
-        self.told
-            .as_slice()
-            .iter()
-            .position(|telling| telling.line == line)
+    /// Notes what a line of the transaction was told, where each line before it was told.
+    pub(crate) fn tell(&mut self, line: usize, reply: &Reply) -> Result<(), NoMemory> {
+        let known = known_by(reply)?;
+        if line < self.told.len() {
+            self.told[line] = known;
+        } else {
+            self.told.push(known)?;
+        }
+        Ok(())
     }
 
-    /// Notes what a line was told.
-    pub(crate) fn tell(&mut self, line: LinePlace, known: Known) -> Result<(), NoMemory> {
-        let telling = Telling { line, known };
-        match self.find(line) {
-            Some(place) => {
-                self.told.set(place, telling);
-                Ok(())
+    /// Goes on behind the lines of the transaction: what each name of theirs stands for is what its last line was told last.
+    pub(crate) fn leave(&mut self, lines: &ScriptLines) -> Result<(), NoMemory> {
+        for (place, line) in lines.as_slice().iter().enumerate() {
+            if let Some(name) = &line.name {
+                let known = match self.told.get(place) {
+                    Some(known) => copied(known)?,
+                    None => Known::Nothing,
+                };
+                let _before = self.earlier.insert(name.copy()?, known)?;
             }
-            None => self.told.push(telling),
         }
+        self.told.clear();
+        Ok(())
     }
 
-    /// An operation with what a name stands for at a line; none where that is the operation itself.
+    /// The operation of a line of the transaction with what a name stands for; none where that is the operation itself. The cost grows
+    /// with the lines of the transaction, and with the logarithm of the number of names.
     pub(crate) fn operation(
         &self,
-        script: &Script,
-        place: LinePlace,
+        lines: &ScriptLines,
+        line: usize,
         name: &Text,
         op: &Op,
     ) -> Result<Option<Op>, NoMemory> {
-        let Some(line) = assigning_line(script, place, name) else {
-            return Ok(None);
+        let known = match last_assigning(lines, line, name) {
+            Some(place) => self.told.get(place),
+            None => self.earlier.get(name),
         };
-        match self.find(line) {
-            Some(told) => with_known(op, &self.told.at(told).known),
+        match known {
+            Some(known) => with_known(op, known),
             None => Ok(None),
         }
     }

@@ -204,7 +204,7 @@ impl<'a> Playing<'a> {
     fn call_of_line(&mut self, place: usize, lines: &ScriptLines) -> Result<Answer, NoMemory> {
         let client = &self.clients[place];
         let line = lines.at(client.line);
-        Ok(match client.operation(line)? {
+        Ok(match client.operation(lines, line)? {
             Some(op) => self.world.act(client.conn, &op),
             None => self.world.act(client.conn, &line.op),
         })
@@ -331,7 +331,7 @@ fn hear_outcome(client: &mut Client, outcome: Outcome) -> Result<Stepped, NoMemo
             Ok(Stepped::OnGoing)
         }
         Outcome::Committed { .. } | Outcome::Ended { .. } | Outcome::RolledBack => {
-            Ok(client.transaction_ended())
+            client.transaction_ended()
         }
         Outcome::Closed => {
             client.end = Some(End::Done);
