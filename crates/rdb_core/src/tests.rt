@@ -6,6 +6,7 @@ use rdb_base::list::{List, NoMemory};
 use rdb_base::operation::{Op, Reply};
 use rdb_base::text::Text;
 use rdb_base::value::{Leaf, Row, Value};
+use rdb_registry::ConnectFault;
 use rdb_schema::schema::{Class, Field, FieldType, Schema};
 use std::alloc::Global;
 use std::test::Fail;
@@ -114,5 +115,19 @@ fn what_a_dead_client_left_is_repaired(rt: HostRuntime) -> Result<(), Fail> {
         assert_eq!(rt; tended, Tended::Done);
         assert_eq!(rt; world.journal().len(), 1);
     }
+    Ok(())
+}
+
+#[test]
+fn a_33rd_connection_waits_for_a_slot(rt: HostRuntime) -> Result<(), Fail> {
+    let alloc = rt.alloc();
+    let mut world = World::create(alloc, 1, numbers(alloc)?, Manager::Mvcc)?;
+    let first = world.connect()?;
+    for _ in 1..32 {
+        let _connected = world.connect()?;
+    }
+    assert_eq!(rt; world.connect(), Err(ConnectFault::TooMany { held: 32 }));
+    assert_eq!(rt; world.disconnect(first), Answer::Ready(Outcome::Closed));
+    assert_eq!(rt; world.connect(), Ok(ConnId { slot: 0, serial: 33 }));
     Ok(())
 }

@@ -11,13 +11,37 @@ ghost use Rattle.rdb_runner.specs.SchemaFile.{IsChecked, IsBadSchema, HasBadSche
 ghost use Rattle.rdb_runner.specs.Telling.{Writes, IsSilent, ink_of, Shows};
 
 use crate::check::check;
-use crate::command_line::{self, CommandLine};
-use crate::telling::tell;
+use crate::command_line::{self, CommandLine, Settings};
+use crate::replay::Job;
+use crate::telling::{NO_MEMORY, tell};
 use crate::world_job::replay_job;
 use rdb_base::files::Files;
 use rdb_base::gate::Gate;
+use rdb_base::list::{List, NoMemory};
 use rdb_base::sink::Sink;
+use rdb_base::text::Text;
 use std::alloc::Global;
+
+/// The job of these settings and names.
+fn job_of(
+    alloc: Global,
+    settings: Settings,
+    schema: &str,
+    schedule: &str,
+    clients: &[&str],
+) -> Result<Job, NoMemory> {
+    let mut names = List::new(alloc);
+    for client in clients {
+        names.push(Text::of(alloc, client)?)?;
+    }
+    Ok(Job {
+        manager: settings.manager,
+        pages: settings.pages,
+        schema: Text::of(alloc, schema)?,
+        schedule: Text::of(alloc, schedule)?,
+        clients: names,
+    })
+}
 
 /// What a command line ends with.
 fn end_command<F: Files, K: Sink>(
@@ -35,15 +59,10 @@ fn end_command<F: Files, K: Sink>(
             schema,
             schedule,
             clients,
-        } => replay_job(
-            alloc,
-            *settings,
-            schema,
-            schedule,
-            clients.as_slice(),
-            files,
-            out,
-        ),
+        } => match job_of(alloc, *settings, schema, schedule, clients.as_slice()) {
+            Ok(job) => replay_job(alloc, &job, files, out),
+            Err(_) => NO_MEMORY,
+        },
         CommandLine::Check { schema } => check(alloc, schema, files, out),
         CommandLine::Run { .. } => tell(out, 10, b"regiondb: not built run\n"),
         CommandLine::Audit { .. } => tell(out, 10, b"regiondb: not built audit\n"),

@@ -1,9 +1,9 @@
 //! The command `replay`, over a World: reads the files of a job, runs its clients by its schedule, and writes the report. It touches the
 //! caller's files and sink alone.
 
-use crate::command_line::Settings;
 use crate::playing::Playing;
 use crate::reading::{Unread, read_all};
+use crate::replay::Job;
 use crate::schema_reading::{NoSchema, schema_in};
 use crate::telling::{NO_MEMORY, tell, tell_fault, tell_item, tell_line, tell_lines, tell_name};
 use rdb_base::duplicate::Duplicate;
@@ -154,21 +154,21 @@ fn report_of(alloc: Global, played: Playing) -> Result<Lines, Refusal> {
 // The lines of the report of scripts and items that were read.
 fn play(
     alloc: Global,
-    settings: Settings,
+    job: &Job,
     schema: Schema,
     items: &Items,
     scripts: &List<Script>,
 ) -> Result<Lines, Refusal> {
-    let world = World::create(alloc, settings.pages, schema, settings.manager)?;
+    let world = World::create(alloc, job.pages, schema, job.manager)?;
     let mut playing = Playing::new(alloc, world, scripts)?;
     playing.play(items.as_slice())?;
     report_of(alloc, playing)
 }
 
 // The lines of the report of these texts: the schema, the schedule, and the clients.
-fn job_of_texts(
+fn lines_of_texts(
     alloc: Global,
-    settings: Settings,
+    job: &Job,
     texts: &[Bytes],
 ) -> Result<Lines, Refusal> {
     let [schema, items, clients @ ..] = texts else {
@@ -180,21 +180,16 @@ fn job_of_texts(
     if !are_served(schema.classes.as_slice()) {
         return Err(Refusal::NotBuilt);
     }
-    play(alloc, settings, schema, &items, &scripts)
+    play(alloc, job, schema, &items, &scripts)
 }
 
 // The names of a job's files, in the order of the words.
-fn names_of<'a>(
-    alloc: Global,
-    schema: &'a str,
-    schedule: &'a str,
-    clients: &[&'a str],
-) -> Result<Vec<&'a str>, NoMemory> {
-    let mut names = Vec::with_capacity(alloc, 2 + clients.len())?;
-    names.push(schema)?;
-    names.push(schedule)?;
-    for client in clients {
-        names.push(*client)?;
+fn names_of(alloc: Global, job: &Job) -> Result<Vec<&str>, NoMemory> {
+    let mut names = Vec::with_capacity(alloc, 2 + job.clients.len())?;
+    names.push(job.schema.as_str())?;
+    names.push(job.schedule.as_str())?;
+    for client in job.clients.as_slice() {
+        names.push(client.as_str())?;
     }
     Ok(names)
 }
@@ -220,17 +215,14 @@ fn tell_refusal<K: Sink>(alloc: Global, out: &mut K, names: &[&str], refusal: Re
 /// first of 3, 4, 5, 6 and 10 is told.
 pub fn replay_job<F: Files, K: Sink>(
     alloc: Global,
-    settings: Settings,
-    schema: &str,
-    schedule: &str,
-    clients: &[&str],
+    job: &Job,
     files: &mut F,
     out: &mut K,
 ) -> u8 {
-    let Ok(names) = names_of(alloc, schema, schedule, clients) else {
+    let Ok(names) = names_of(alloc, job) else {
         return NO_MEMORY;
     };
-    match lines_of(alloc, settings, names.as_slice(), files) {
+    match lines_of(alloc, job, names.as_slice(), files) {
         Ok(lines) => tell_lines(out, &lines),
         Err(refusal) => tell_refusal(alloc, out, names.as_slice(), refusal),
     }
@@ -239,10 +231,10 @@ pub fn replay_job<F: Files, K: Sink>(
 // The lines of the report of the files of these names.
 fn lines_of<F: Files>(
     alloc: Global,
-    settings: Settings,
+    job: &Job,
     names: &[&str],
     files: &mut F,
 ) -> Result<Lines, Refusal> {
     let texts = read_files(alloc, files, names)?;
-    job_of_texts(alloc, settings, texts.as_slice())
+    lines_of_texts(alloc, job, texts.as_slice())
 }
