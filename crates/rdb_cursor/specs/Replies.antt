@@ -9,17 +9,17 @@ use Rattle.rdb_cells.specs.Images.{Image}
 use Rattle.rdb_sight.specs.Versions.{Marks, Versions, objects_in, shown}
 use Rattle.rdb_model.specs.Answer.{answer}
 use Rattle.rdb_store.specs.Holds.{Holds, HoldsSome}
-use Rattle.rdb_store.specs.Shapes.{class_shape}
+use Rattle.rdb_store.specs.Shapes.{schema_class}
 use Rattle.rdb_cursor.specs.declared.marks.Reader.{Reader}
 
 -- the cells of the operation's class hold some objects
 abbrev pub HoldsFor : Schema → Image → (ℕ → Option ℕ) → Op → Type 0
-HoldsFor schema image class_of op = HoldsSome (class_shape schema (class_named op)) image class_of
+HoldsFor schema image class_of op = HoldsSome (schema_class schema (class_named op)) image class_of
 
 -- the cells of the operation's class hold what these versions are of that class
 abbrev pub HoldsVersions : Schema → Image → (ℕ → Option ℕ) → Op → Versions → Type 0
 HoldsVersions schema image class_of op versions =
-    Holds (class_shape schema (class_named op)) image class_of (objects_in versions (class_named op))
+    Holds (schema_class schema (class_named op)) image class_of (objects_in versions (class_named op))
 
 -- the plain reply on the rows that the versions show a reader
 abbrev pub plain_reply : Schema → Marks → Reader → Versions → Op → Reply

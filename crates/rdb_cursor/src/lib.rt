@@ -2,14 +2,14 @@
 #![tactic(auto)]
 
 mod ids;
-mod lookup;
+mod replies;
 mod marks;
-mod refusal;
+mod refusals;
 mod seek;
 #[cfg(test)]
 mod tests;
 mod view;
 
-pub use lookup::lookup;
+pub use replies::lookup;
 pub use marks::{Marks, Reader};
-pub use refusal::refusal;
+pub use refusals::refusal;

@@ -1,7 +1,7 @@
 //! Lookups over versions that the store put: own versions, old snapshots, and seeks past versions that aren't shown.
-use crate::lookup::lookup;
+use crate::replies::lookup;
 use crate::marks::{Marks, Reader};
-use crate::refusal::refusal;
+use crate::refusals::refusal;
 use rdb_access::accessors::Accessors;
 use rdb_base::identity::{ConnId, Stamp, TxId};
 use rdb_base::list::{List, NoMemory};

@@ -4,9 +4,9 @@ use Rattle.std.specs.List.{Contains}
 use Rattle.rdb_pages.specs.declared.cell.CellRef.{CellRef}
 use Rattle.rdb_cells.specs.HeadFormat.{class_head_cell, empty_class_head}
 use Rattle.rdb_cells.specs.Images.{Image}
-use Rattle.rdb_cells.specs.Links.{IsAmong}
+use Rattle.rdb_cells.specs.Links.{IsAmong, AreOnce}
 use Rattle.rdb_cells.proofs.ListedLemmas.{contains_first, contains_later}
-use Rattle.rdb_objects.specs.Changes.{RestsOnObjects, LeavesObjects, StartsEmpty, OfOneObject}
+use Rattle.rdb_objects.specs.Changes.{RestsOnObjects, LeavesObjects, StartsEmpty, OfOneObject, HasObjectCells}
 use Rattle.rdb_objects.specs.Objects.{Object, newest_of, versions_of}
 use Rattle.rdb_objects.specs.Slots.{IsVersion, AreVersions, HoldsObjects}
 use Rattle.rdb_objects.proofs.ChainLemmas.{one_header, chain_member, contained}
@@ -83,4 +83,18 @@ empty_holds image class empty = record {
   versions = λ s none. absurd none;
   objects_are = record { told = λ s none. absurd none; slotted = λ id. inl refl; once = tt; have = tt };
   cells_are = refl;
+}
+
+-- the kinds of what a class's objects stand in
+pub object_cells : HasObjectCells
+object_cells image class objects cells holds = record {
+  head = (holds.tree.rooted.cell, holds.tree.rooted.here, holds.tree.rooted.kind);
+  slots = λ n within.
+      let s = slot_in_cell holds.slots n (subst (λ (ns : List ℕ). IsAmong ns n) holds.cells_are within) in
+      let stands = holds.tree.each s.0 s.1 in
+      (stands.cell, ap image (sym s.2) ∙ stands.here, stands.kind);
+  once = subst AreOnce (sym holds.cells_are) holds.tree.once;
+  headers = λ id version within.
+      let v = version_of image class objects cells holds id version within in
+      (v.2.cell, ap image (sym v.3) ∙ v.2.here, v.2.kind);
 }

@@ -12,3 +12,6 @@ pub mod RemovingSlots
 pub mod Moving
 pub mod Removable
 pub mod TestLemmas
+pub mod OrderLemmas
+pub mod ListOrder
+pub mod SortLemmas

@@ -14,14 +14,14 @@ use Rattle.rdb_cells.specs.Links.{IsAmong, AreOnce, AreOf}
 use Rattle.rdb_cells.specs.ObjectFormat.{IsSlot, slot_in}
 use Rattle.rdb_cells.specs.Records.{content}
 use Rattle.rdb_cells.specs.References.{class_head_ref}
-use Rattle.rdb_cells.specs.VersionFormat.{header_in, with_older}
+use Rattle.rdb_cells.specs.VersionFormat.{IsHeader, header_cell as header_cell_of, header_in, with_older}
 use Rattle.rdb_cells.specs.Words.{kind_number, IsOfKind, no_ref}
 use Rattle.rdb_cells.specs.Work.{Work, reading, IsBlank, IsLeft, TakesNone}
 use Rattle.rdb_cells.proofs.VersionCellLemmas.{others_written}
 use Rattle.rdb_cells.proofs.WorkLemmas.{put_work, put_reads, put_says, left_blank, put_takes_none, lowest_none, put_longer}
 use Rattle.rdb_objects.specs.declared.tree.Spot.{Spot}
 use Rattle.rdb_objects.specs.Chains.{IsNewer}
-use Rattle.rdb_objects.specs.Changes.{HasVersion, HoldsAnew, RemovesVersion, KeepsVersionCells, IsSameButOlder}
+use Rattle.rdb_objects.specs.Changes.{HasVersion, HoldsAnew, RemovesVersion, Relinks}
 use Rattle.rdb_objects.specs.Objects.{Object, newest_of, versions_of, without, without_version}
 use Rattle.rdb_objects.specs.Slots.{Slot, cells_of, IsOneOf, IsVersion, AreVersions, AreSlots, HoldVersions, HoldsObjects}
 use Rattle.rdb_objects.specs.Walks.{IsFound, WhateverSlots}
@@ -49,13 +49,6 @@ module _ (slots : List Slot) (s : Slot) (one : IsOneOf slots s) (picked : Picked
         | inl same ↦ inl (ap (λ (x : Slot). x.number) same ∙ t.2)
         | inr other ↦ inr (subst (λ (k : ℕ). IsAmong (cells_of picked.others) k) t.2 (in_cells picked.others t.0 other))
       ]
-
--- the same cells of rows and headers are kept
-pub keeps_all : (before after : Image) → SameVersionCells before after → KeepsVersionCells before after
-keeps_all before after same = record {
-  still = λ n cell here is. (cell, (same n cell is).0 here, inl refl);
-  none_new = λ n now here is. (now, (same n now is).1 here, inl refl);
-}
 
 -- From what the slots are now to what the class holds
 module _ (class : ℕ) (w after : Work) (id : ℕ) (version : CellRef) (objects : List Object) (cells : List ℕ) (holds : HoldsObjects (reading w) class objects cells)
@@ -132,7 +125,8 @@ module _ (class : ℕ) (w : Work) (spot : Spot) (id : ℕ) (version newest newer
     (header_there : reading w version.number ≡ Some header_cell) (older_is : older ≡ (header_in header_cell).older)
     (newer_is : IsNewer (reading w) newest version newer)
     (old_there : reading w newer.number ≡ Some old)
-    (kind_is : kind_number cell ≡ kind_number old) (says : header_in cell ≡ with_older (header_in old) older) where
+    (kind_is : kind_number cell ≡ kind_number old) (says : header_in cell ≡ with_older (header_in old) older)
+    (whole : (h : VersionHeader) → IsHeader h → old ≡ header_cell_of h → cell ≡ header_cell_of (with_older h older)) where
   abbrev pub past_1 : Work
   past_1 = put_work w newer cell
 
@@ -262,39 +256,32 @@ module _ (class : ℕ) (w : Work) (spot : Spot) (id : ℕ) (version newest newer
     itself : reading past_1 version.number ≡ reading w version.number
     itself = wrote.elsewhere version.number (λ e. once.1 (inl e))
 
-    same_but : (c : Cell) → reading w newer.number ≡ Some c → IsSameButOlder c cell
-    same_but c here =
-        let was = same_cell (reading w) newer.number old c old_there here in
-        let link : older ≡ (header_in cell).older = ap (λ (h : VersionHeader). h.older) (sym says) in
-        let whole : header_in cell ≡ record (header_in old) { older = (header_in cell).older } =
-        says ∙ ap (λ (r : CellRef). (let h : VersionHeader = record (header_in old) { older = r } in h)) link in
-        let kind_old : IsOfKind old kind.Version = ap kind_number (sym old_cell) ∙ tail.0.kind in
-        inr (
-          subst (λ (d : Cell). IsOfKind d kind.Version) was kind_old,
-          kind_is ∙ kind_old,
-          subst (λ (d : Cell). header_in cell ≡ record (header_in d) { older = (header_in cell).older }) was whole,
-        )
-
-    versions_kept : KeepsVersionCells (reading w) (reading past_1)
-    versions_kept = record {
-      still = λ n c here is. elim (which n newer.number) [
-        | inl same ↦ (cell, ap (reading past_1) same ∙ wrote.here, same_but c (ap (reading w) (sym same) ∙ here))
-        | inr apart ↦ (c, wrote.elsewhere n apart ∙ here, inl refl)
-      ];
-      none_new = λ n now here is. elim (which n newer.number) [
-        | inl same ↦
-            let it_is = same_cell (reading past_1) newer.number cell now wrote.here (ap (reading past_1) (sym same) ∙ here) in
-            (old, ap (reading w) same ∙ old_there, subst (λ (d : Cell). IsSameButOlder old d) it_is (same_but old old_there))
-        | inr apart ↦ (now, sym (wrote.elsewhere n apart) ∙ here, inl refl)
-      ];
-    }
+    relinked : Relinks (reading w) (reading past_1) (versions_of objects id) version
+    unfolding header_now
+    relinked = inr (record {
+      front = parts.0;
+      newer = newer;
+      back = parts.1;
+      split = its_versions ∙ parts.2;
+      leads = record {
+        cell = old;
+        now = cell;
+        was = old_there;
+        here = wrote.here;
+        was_header = ap kind_number (sym old_cell) ∙ tail.0.kind;
+        header = header_now.kind;
+        says = says ∙ ap (λ (r : CellRef). with_older (header_in old) r) next;
+        whole = λ h proper is. whole h proper is ∙ ap (λ (r : CellRef). header_cell_of (with_older h r)) next;
+      };
+      elsewhere = wrote.elsewhere;
+    })
 
   pub removes_older : RemovesVersion class w past_1 id version
   removes_older = record {
     holds = anew;
     own = own_past;
     itself = itself has.objects has.cells has.holds;
-    versions = versions_kept has.objects has.cells has.holds;
+    versions = relinked;
     takes_none = none has.objects has.cells has.holds;
     places = (let first = put_longer w.pairs (record { at = newer; cell = cell }) in omega arith);
     goes_on = record { below = refl; classes = refl; class = refl; room = refl };
@@ -420,7 +407,7 @@ module _ (class : ℕ) (w : Work) (spot : Spot) (id : ℕ) (version older : Cell
     holds = anew_next;
     own = own_next;
     itself = itself_next has.objects has.cells has.holds;
-    versions = keeps_all (reading w) (reading next_1) (cells_same has.objects has.cells has.holds);
+    versions = λ objects cells holds. inl (ap (λ (vs : List CellRef). newest_of vs) (own_versions objects cells holds) ∙ sym (first_is objects cells holds), cells_same objects cells holds);
     takes_none = takes_no has.objects has.cells has.holds;
     places = (let first = put_longer w.pairs (record { at = spot.slot; cell = cell }) in omega arith);
     goes_on = record { below = refl; classes = refl; class = refl; room = refl };

@@ -15,14 +15,14 @@ use Rattle.rdb_cells.proofs.VersionCellLemmas.{others_written}
 use Rattle.rdb_cells.proofs.WorkLemmas.{put_work, put_reads, put_says, left_blank, put_takes_none, none_then, put_longer}
 use Rattle.rdb_objects.specs.declared.tree.Spot.{Spot}
 use Rattle.rdb_objects.specs.Changes.{HasLast, HoldsAnew, RemovesVersion}
-use Rattle.rdb_objects.specs.Objects.{Object, versions_of, without, without_version}
+use Rattle.rdb_objects.specs.Objects.{Object, versions_of, without, without_version, newest_of}
 use Rattle.rdb_objects.specs.Slots.{Path, Slot, cells_of, IsOneOf, IsVersion, AreVersions, AreSlots, HoldVersions, HoldsObjects}
 use Rattle.rdb_objects.specs.Walks.{IsSpot, IsLink, IsFound, IsLeafBelow, IsLeadingToLeaf, WhateverSlots}
 use Rattle.rdb_objects.proofs.Adding.{versions_again, slot_none, free_none, link_at, link_none, link_cell_none, link_not_free}
 use Rattle.rdb_objects.proofs.ChainLemmas.{without_there}
 use Rattle.rdb_objects.proofs.ObjectLemmas.{found_slot, found_versions, none_found}
 use Rattle.rdb_objects.proofs.OneTree.{same_versions}
-use Rattle.rdb_objects.proofs.Removing.{own_cells, all_cells, keeps_all, removed}
+use Rattle.rdb_objects.proofs.Removing.{own_cells, all_cells, removed}
 use Rattle.rdb_objects.proofs.TreeChanges.{upper_of}
 use Rattle.rdb_objects.proofs.TreeLemmas.{in_cells, one_cell, Picked, pick, led_slot}
 use Rattle.rdb_objects.proofs.TreeSteps.{head_no_slot, free_no_slot, slot_went}
@@ -207,7 +207,7 @@ module _ (class : ℕ) (w : Work) (spot leaf : Spot) (id : ℕ) (version pair_at
     holds = anew;
     own = own_now;
     itself = itself last.objects last.cells last.holds;
-    versions = keeps_all (reading w) (reading leaf_2) (cells_same last.objects last.cells last.holds);
+    versions = λ objects cells holds. inl (ap (λ (vs : List CellRef). newest_of vs) (one_left class w spot id version sought last objects cells holds), cells_same objects cells holds);
     takes_none = none last.objects last.cells last.holds;
     places =
         let first = put_longer w.pairs (record { at = leaf.slot; cell = zero_cell }) in

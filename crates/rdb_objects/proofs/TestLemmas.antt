@@ -15,6 +15,7 @@ use Rattle.rdb_cells.specs.Words.{IsOfKind, no_ref}
 use Rattle.rdb_cells.specs.Work.{Work, reading, IsLeft, HasLeft}
 use Rattle.rdb_cells.proofs.ListedLemmas.{contains_first}
 use Rattle.rdb_objects.specs.Changes.{CanAdd, HasVersion, AddsVersion, RemovesVersion}
+use Rattle.rdb_objects.specs.Order.{HasObject}
 use Rattle.rdb_objects.specs.Objects.{newest_of, versions_of, newest_version, with_version, without_version}
 use Rattle.rdb_objects.specs.Slots.{HoldsSome, Whatever}
 use Rattle.rdb_objects.proofs.LawLemmas.{free_written, empty_holds}
@@ -85,3 +86,9 @@ some_written before after n cell holds free writes = (holds.0, holds.1, free_wri
 
 pub starts_empty : (image : Image) → image (class_head_ref 0).number ≡ Some (class_head_cell empty_class_head) → HoldsSome image 0
 starts_empty image empty = ([], [], empty_holds image 0 empty)
+
+pub has_object : (image : Image) (id : ℕ) (version : CellRef) → HoldsSome image 0 → Whatever image 0 (λ objects cells. Some version ≡ newest_version objects id) → HasObject image 0 id
+has_object image id version holds is = (holds.0, holds.1, holds.2, λ none. nothing (is holds.0 holds.1 holds.2 ∙ ap (λ (vs : List CellRef). slice_get vs 0) none))
+  where
+    nothing : Some version ≡ slice_get [] 0 → ⊥
+    nothing e = cc

@@ -38,7 +38,7 @@ module _ (image : Image) (class : ℕ) (slots : List Slot) (tree : AreSlots imag
   pub head_cell : IsCell image (class_head_ref class).number
   head_cell = subst (λ (o : Option Cell). IsSome o) (sym tree.rooted.here) (search rules)
 
-  pub sought_first : (id : ℕ) (cell : Cell) (root : CellRef) (spot : Spot) → image (class_head_ref class).number ≡ Some cell → (class_head_in cell).root ≡ root → spot.slot ≡ root → spot.above.number ≡ 0 → IsSought slots id 0 id spot
+  abbrev pub sought_first : (id : ℕ) (cell : Cell) (root : CellRef) (spot : Spot) → image (class_head_ref class).number ≡ Some cell → (class_head_in cell).root ≡ root → spot.slot ≡ root → spot.above.number ≡ 0 → IsSought slots id 0 id spot
   sought_first id cell root spot here is at above = record {
     path = [];
     is_spot = record {
@@ -107,11 +107,11 @@ module _ (image : Image) (class : ℕ) (slots : List Slot) (tree : AreSlots imag
         }
 
         module _ (other : (slot_in cell).id ≢ id) where
-          differs : sought_has.slot.id ≢ id
+          pub differs : sought_has.slot.id ≢ id
           differs same = other (read_id so_far.path spot.slot.number sought_has cell here ∙ same)
 
           -- at the 23rd slot the id is the one that is sought
-          short : id < 2 ^ 64 → count < 22
+          pub short : id < 2 ^ 64 → count < 22
           short small =
               let within = so_far.within in
               let at_most : (count ≡ 22) → ⊥ = λ full.
@@ -127,7 +127,7 @@ module _ (image : Image) (class : ℕ) (slots : List Slot) (tree : AreSlots imag
               by_cases n within apart = omega arith
 
           -- a slot of the id below is below the child at the next digit
-          next_toward : (s : Slot) → IsOneOf slots s → s.id ≡ id → (down : Path) × (s.path ≡ down ++ (digits % 8) ∷ so_far.path)
+          pub next_toward : (s : Slot) → IsOneOf slots s → s.id ≡ id → (down : Path) × (s.path ≡ down ++ (digits % 8) ∷ so_far.path)
           next_toward s one same =
               let way = so_far.toward s one same in
               elim (first_step way.0 so_far.path) [
@@ -151,7 +151,7 @@ module _ (image : Image) (class : ℕ) (slots : List Slot) (tree : AreSlots imag
               digit_is : (place others all : ℕ) → place < 8 → all ≡ place + 8 * others → place ≡ all % 8
               digit_is place others all below whole = omega arith
 
-          pub sought_more : id < 2 ^ 64 → (next : Spot) → slice_get (slot_in cell).children (digits % 8) ≡ Some next.slot → next.above ≡ spot.slot → next.place ≡ digits % 8 → IsSought slots id (count + 1) (digits / 8) next
+          abbrev pub sought_more : id < 2 ^ 64 → (next : Spot) → slice_get (slot_in cell).children (digits % 8) ≡ Some next.slot → next.above ≡ spot.slot → next.place ≡ digits % 8 → IsSought slots id (count + 1) (digits / 8) next
           sought_more small next child above at =
               let more = short small in
               record {

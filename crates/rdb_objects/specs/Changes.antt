@@ -1,18 +1,19 @@
 -- What a change of one object's versions leaves and makes, by the work on a plan before and after it.
-use Rattle.std.specs.Prelude.{◌≡◌, ◌+◌, ◌≤◌, ◌⊎◌, ℕ, List, [], ◌∷◌, length, map, Some, Contains}
+use Rattle.std.specs.Prelude.{◌≡◌, ◌≢◌, ◌+◌, ◌≤◌, ◌⊎◌, ◌++◌, ℕ, List, [], ◌∷◌, length, map, Some, Contains}
 use Rattle.rdb_pages.specs.declared.cell.Cell.{Cell}
 use Rattle.rdb_pages.specs.declared.cell.CellRef.{CellRef}
 use Rattle.rdb_pages.specs.Pages.{zero_cell}
+use Rattle.rdb_cells.specs.declared.formats.version.VersionHeader.{VersionHeader}
 use Rattle.rdb_cells.specs.declared.kind.Kind.TheVariants as kind
 use Rattle.rdb_cells.specs.HeadFormat.{class_head_cell, empty_class_head}
 use Rattle.rdb_cells.specs.Images.{Image, Writes}
 use Rattle.rdb_cells.specs.Index.{KeepsAccount}
-use Rattle.rdb_cells.specs.Keys.{SameVersionCells, IsOfVersion}
+use Rattle.rdb_cells.specs.Keys.{SameVersionCells}
 use Rattle.rdb_cells.specs.Links.{IsAmong, AreOf, AreOnce, SameOn}
 use Rattle.rdb_cells.specs.Records.{content}
 use Rattle.rdb_cells.specs.References.{class_head_ref}
-use Rattle.rdb_cells.specs.VersionFormat.{header_in}
-use Rattle.rdb_cells.specs.Words.{IsOfKind}
+use Rattle.rdb_cells.specs.VersionFormat.{IsHeader, header_cell, header_in, with_older}
+use Rattle.rdb_cells.specs.Words.{IsOfKind, HasKind}
 use Rattle.rdb_cells.specs.Work.{Work, reading, IsLeft, HasLeft, TakesAtMost, TakesNone, GoesOn}
 use Rattle.rdb_objects.specs.Objects.{Object, ids_of, newest_of, versions_of, HaveVersions, SameObjects, with_version, without_version}
 use Rattle.rdb_objects.specs.Slots.{IsVersion, HoldsObjects, Whatever}
@@ -63,15 +64,32 @@ pub record AddsVersion (class : ℕ) (before after : Work) (id : ℕ) (version :
   pub places : length after.pairs ≤ length before.pairs + 2
   pub goes_on : GoesOn before after
 
--- a cell of a row or a header stays, but that a header may lead to another version
-abbrev pub IsSameButOlder : Cell → Cell → Type 0
-IsSameButOlder cell now =
-    (now ≡ cell) ⊎ (IsOfKind cell kind.Version × IsOfKind now kind.Version × (header_in now ≡ record (header_in cell) { older = (header_in now).older }))
+-- the header there leads to this older version now, and is as it was in all else
+pub record LeadsAnew (before after : Image) (n : ℕ) (older : CellRef) : Type 0 where
+  pub cell : Cell
+  pub now : Cell
+  pub was : before n ≡ Some cell
+  pub here : after n ≡ Some now
+  pub was_header : IsOfKind cell kind.Version
+  pub header : IsOfKind now kind.Version
+  pub says : header_in now ≡ with_older (header_in cell) older
+  pub whole : (h : VersionHeader) → IsHeader h → cell ≡ header_cell h → now ≡ header_cell (with_older h older)
 
--- the cells of rows and headers are as before, but that a header may lead to another version
-pub record KeepsVersionCells (before after : Image) : Type 0 where
-  pub still : (n : ℕ) (cell : Cell) → before n ≡ Some cell → IsOfVersion cell → (now : Cell) × (after n ≡ Some now) × IsSameButOlder cell now
-  pub none_new : (n : ℕ) (now : Cell) → after n ≡ Some now → IsOfVersion now → (cell : Cell) × (before n ≡ Some cell) × IsSameButOlder cell now
+-- the version is the newest of these, and no cell of a row or a header changed
+abbrev pub RelinksSlot : Image → Image → List CellRef → CellRef → Type 0
+RelinksSlot before after versions version = (newest_of versions ≡ version) × SameVersionCells before after
+
+-- the header of the version that is directly newer leads past this one, and no other cell changed
+pub record RelinksHeader (before after : Image) (versions : List CellRef) (version : CellRef) : Type 0 where
+  pub front : List CellRef
+  pub newer : CellRef
+  pub back : List CellRef
+  pub split : versions ≡ front ++ newer ∷ version ∷ back
+  pub leads : LeadsAnew before after newer.number (newest_of back)
+  pub elsewhere : (n : ℕ) → n ≢ newer.number → after n ≡ before n
+
+abbrev pub Relinks : Image → Image → List CellRef → CellRef → Type 0
+Relinks before after versions version = RelinksSlot before after versions version ⊎ RelinksHeader before after versions version
 
 -- of every cell that is neither the class's head nor a slot nor a header of the object, the plan says what it said before
 abbrev pub PlansOnlyObject : ℕ → ℕ → Work → Work → Type 0
@@ -85,7 +103,7 @@ pub record RemovesVersion (class : ℕ) (before after : Work) (id : ℕ) (versio
       (now_cells : List ℕ) × HoldsAnew before after class (without_version objects id version) cells now_cells × AreOf cells now_cells)
   pub own : PlansOnlyObject class id before after
   pub itself : reading after version.number ≡ reading before version.number
-  pub versions : KeepsVersionCells (reading before) (reading after)
+  pub versions : Whatever (reading before) class (λ objects cells. Relinks (reading before) (reading after) (versions_of objects id) version)
   pub takes_none : TakesNone before after
   pub places : length after.pairs ≤ length before.pairs + 3
   pub goes_on : GoesOn before after
@@ -122,3 +140,13 @@ HoldsInAnyOrder = (image : Image) (class : ℕ) (xs ys : List Object) (ns : List
 abbrev pub OfOneObject : Type 0
 OfOneObject = (image : Image) (class : ℕ) (objects : List Object) (cells : List ℕ) → HoldsObjects image class objects cells →
     (a b : ℕ) (version : CellRef) → Contains (versions_of objects a) version → Contains (versions_of objects b) version → a ≡ b
+
+-- the kinds of the cells of a class's objects: its head, its slots, each once, and the headers of its versions
+pub record AreObjectCells (image : Image) (class : ℕ) (objects : List Object) (cells : List ℕ) : Type 0 where
+  pub head : HasKind image kind.ClassHead (class_head_ref class).number
+  pub slots : (n : ℕ) → IsAmong cells n → HasKind image kind.Object n
+  pub once : AreOnce cells
+  pub headers : (id : ℕ) (version : CellRef) → Contains (versions_of objects id) version → HasKind image kind.Version version.number
+
+abbrev pub HasObjectCells : Type 0
+HasObjectCells = (image : Image) (class : ℕ) (objects : List Object) (cells : List ℕ) → HoldsObjects image class objects cells → AreObjectCells image class objects cells

@@ -3,3 +3,4 @@ pub mod Slots
 pub mod Changes
 pub mod Walks
 pub mod Chains
+pub mod Order

@@ -8,9 +8,12 @@ mod objects;
 #[cfg(test)]
 mod tests;
 mod tree;
+mod walk;
 
 pub use laws::{
     a_class_holds_one_list, a_free_cell_is_of_no_object, a_version_is_of_one_object,
-    an_empty_head_holds_nothing, objects_go_in_any_order, objects_rest_on_their_cells,
+    an_empty_head_holds_nothing, objects_come_in_an_order, objects_go_in_any_order,
+    objects_have_cells_of_their_kinds, objects_rest_on_their_cells,
 };
 pub use objects::Objects;
+pub use walk::Found;

@@ -5,6 +5,7 @@ ghost use Rattle.rdb_cells.specs.Memory.{memory_image};
 ghost use Rattle.rdb_cells.specs.Records.{planned};
 ghost use Rattle.rdb_cells.specs.References.{class_head_ref};
 ghost use Rattle.rdb_cells.specs.Work.{work, reading};
+ghost use Rattle.rdb_objects.specs.Order.{HasObject};
 ghost use Rattle.rdb_objects.specs.Slots.{HoldsSome};
 
 use crate::objects::Objects;
@@ -20,6 +21,11 @@ use std::process::Abort;
 use std::test::*;
 
 const OBJECTS: Objects = Objects { class: 0 };
+
+const RISING: [u64; 15] = [1, 2, 3, 4, 5, 6, 7, 8, 9, 10, 17, 18, 25, 33, 40];
+
+/// The same ids as the objects come that were added in that order.
+const WALKED: [u64; 15] = [1, 8, 40, 9, 17, 25, 33, 2, 10, 18, 3, 4, 5, 6, 7];
 
 fn is_empty_head(cell: &Cell) -> bool
     ensures { IsTrue result ↔ (cell.now ≡ class_head_cell empty_class_head) }
@@ -114,6 +120,30 @@ fn assert_ids<C: Cells>(rt: &impl Abort, cells: &Overlay<C>, ids: &[u64], what: 
     }
 }
 
+/// Returns whether there is an object of the id.
+fn is_there<C: Cells>(cells: &Overlay<C>, id: u64) -> bool
+    requires { HoldsSome (reading (work C.Cells cells.now)) 0 }
+    ensures { IsTrue result → HasObject (reading (work C.Cells cells.now)) 0 id }
+{
+    match OBJECTS.newest_version(cells, id) {
+        Some(_) => true,
+        None => false,
+    }
+}
+
+/// Asserts that the objects come in this order.
+fn assert_order<C: Cells>(rt: &impl Abort, cells: &Overlay<C>, ids: &[u64])
+    requires { HoldsSome (reading (work C.Cells cells.now)) 0 }
+{
+    let mut next = OBJECTS.first_object(cells);
+    for id in ids {
+        assert_eq!(rt; next.map(|found| found.id), Some(*id), "the next");
+        assert!(rt; is_there(cells, *id), "no object {id}");
+        next = OBJECTS.next_object(cells, *id);
+    }
+    assert!(rt; next.is_none(), "one more");
+}
+
 /// Adds an object for each id, and removes them in another order.
 fn churn(
     rt: &impl Abort,
@@ -126,6 +156,9 @@ fn churn(
         add(rt, &mut cells, *id, *id);
     }
     assert_ids(rt, &cells, add_order, "added");
+    if add_order[..] == RISING[..] {
+        assert_order(rt, &cells, &WALKED);
+    }
     'removing: for (gone, id) in remove_order.iter().enumerate() {
         remove(rt, &mut cells, *id);
         assert_ids(rt, &cells, &remove_order[gone + 1..], "removed");
@@ -136,11 +169,10 @@ fn churn(
 
 #[test]
 fn objects_come_and_go_in_any_order(rt: HostRuntime) -> Result<(), Fail> {
-    let rising = [1, 2, 3, 4, 5, 6, 7, 8, 9, 10, 17, 18, 25, 33, 40];
     let falling = [40, 33, 25, 18, 17, 10, 9, 8, 7, 6, 5, 4, 3, 2, 1];
     let mixed = [9, 40, 1, 17, 2, 25, 33, 8, 18, 10, 3, 7, 4, 6, 5];
-    for order in [rising, falling, mixed] {
-        churn(&rt, rt.alloc(), &rising, &order)?;
+    for order in [RISING, falling, mixed] {
+        churn(&rt, rt.alloc(), &RISING, &order)?;
         churn(&rt, rt.alloc(), &order, &falling)?;
     }
     Ok(())

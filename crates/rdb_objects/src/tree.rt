@@ -10,7 +10,7 @@ use rdb_cells::{Cells, ClassHead, NONE, ObjectSlot, Pair, SLOT_CHILDREN, class_h
 use rdb_pages::{Cell, CellRef};
 
 /// The most slots on a way from the root: two ids that agree in the 66 lowest bits are one.
-const MAX_LEVELS: usize = 23;
+pub const MAX_LEVELS: usize = 23;
 
 /// A place in the tree.
 #[derive(Clone, Copy, Debug, PartialEq, Eq)]

@@ -36,7 +36,7 @@ part_one cell a b ks ls first second =
     let two = part_read cell b ls second in
     (sym one.0 ∙ two.0, sym one.1 ∙ two.1)
 
-the_number : (a b : ℕ) → a ∷ [] ≡ b ∷ [] → a ≡ b
+pub the_number : (a b : ℕ) → a ∷ [] ≡ b ∷ [] → a ≡ b
 the_number a b e = ap (λ (ns : List ℕ). get_or ns 0 0) e
 
 -- the numbers of a chain's cells

@@ -9,3 +9,10 @@ pub mod VersionPlans
 pub mod Rooms
 pub mod Decodings
 pub mod SpotLemmas
+pub mod WalkLemmas
+pub mod PlaceLemmas
+pub mod LeafSpots
+pub mod KeyRows
+pub mod KeyedRows
+pub mod KeyTexts
+pub mod SayingLemmas

@@ -1,7 +1,7 @@
 -- Bytes that stand from a spot on.
-use Rattle.std.proofs.Common.{◌≡◌, ◌<◌, ◌≤◌, ◌+◌, ◌-◌, ◌*◌, ◌^◌, ◌++◌, zero, suc, ℕ, List, [], ◌∷◌, length, take, drop, get_or, set, Option, Some, None, refl, sym, ap, ap₂, subst, ◌∙◌, arith, length-append, length-drop, length-take}
+use Rattle.std.proofs.Common.{◌≡◌, ◌<◌, ◌≤◌, ◌+◌, ◌-◌, ◌*◌, ◌++◌, zero, suc, ℕ, List, [], ◌∷◌, length, take, drop, get_or, set, Option, Some, None, refl, sym, ap, ap₂, subst, ◌∙◌, arith, length-append, length-drop}
 use Rattle.std.specs.Prelude.{slice_index}
-use Rattle.std.specs.Prelude.{ℤ, pos, Bool, if◌then◌else◌}
+use Rattle.std.specs.Prelude.{ℤ, pos, Bool, true, false, if◌then◌else◌}
 use Rattle.std.specs.Int.{w32, to_le_bytes, cast_signed}
 use Rattle.std.proofs.lemmas.Bool.{le-leb}
 use Rattle.byteorder.specs.Endian.{little_number, twos_complement}
@@ -11,7 +11,7 @@ use Rattle.rdb_access.specs.Read.{edge_from}
 use Rattle.rdb_access.proofs.Reading.{room_test}
 use Rattle.std.specs.List.{flat_map}
 use Rattle.std.specs.Option.{option_map_or}
-use Rattle.std.proofs.lemmas.List.{drop-drop, drop-append-le, take-append-drop, length-take-le, get_or-drop, get_or_append_left, drop_more, take_more, take_more_set, length_push}
+use Rattle.std.proofs.lemmas.List.{drop-drop, drop-append-le, take-append-drop, length-take-le, get_or-drop, get_or_append_left, take_more, take_more_set}
 use Rattle.rdb_pages.specs.declared.cell.Cell.{Cell}
 use Rattle.rdb_cells.specs.declared.kind.Kind.TheVariants as kind
 use Rattle.rdb_cells.specs.Images.{Image}
@@ -62,11 +62,13 @@ has_cell image spot bytes some stand = by_count stand.many stand.here
     nothing n e =
         let long = ap (λ (xs : List ℕ). length xs) (sym (no_drop n) ∙ e) ∙ length-append bytes stand.fill in
         absurd (omega arith)
+
     by_cell : (many : ℕ) (o : Option Cell) → of_kind kind.Row (image spot.cell.number) ≡ o → drop spot.place (option_map_or (λ cell. (row_in cell).bytes ++ bytes_from image many (row_in cell).next.number) o []) ≡ bytes ++ stand.fill → HasCell image spot bytes stand.fill
     by_cell many None is here = absurd (nothing spot.place here)
     by_cell many (Some cell) is here =
         let found = found_kind kind.Row (image spot.cell.number) cell is in
         record { cell = cell; many = many; here = found.0; row = found.1; stands = here }
+
     by_count : (many : ℕ) → drop spot.place (bytes_from image many spot.cell.number) ≡ bytes ++ stand.fill → HasCell image spot bytes stand.fill
     by_count zero here = absurd (nothing spot.place here)
     by_count (suc many) here = by_cell many (of_kind kind.Row (image spot.cell.number)) refl here
@@ -147,3 +149,13 @@ fewer_bytes image spot few many less has =
     let both = length-append has.bytes has.rest in
     let long = has.long in
     has_bytes image spot few (has.bytes ++ has.rest) (omega arith) has.stand
+
+pub unsigned_is : (w n : ℕ) (signed : Bool) (read bytes : List ℕ) → signed ≡ false → n ≡ little_number w read → 1 ≤ w → w ≤ 8 → w ≤ length bytes → take w read ≡ take w bytes → pos n ≡ number_from w signed bytes
+unsigned_is w n signed read bytes plain is low high within same =
+    ap pos is ∙ sym (ap (λ (b : Bool). if b then twos_complement w (little_number w read) else pos (little_number w read)) plain)
+    ∙ number_is w signed read bytes low high within same
+
+pub signed_is : (w : ℕ) (z : ℤ) (signed : Bool) (read bytes : List ℕ) → signed ≡ true → z ≡ twos_complement w (little_number w read) → 1 ≤ w → w ≤ 8 → w ≤ length bytes → take w read ≡ take w bytes → z ≡ number_from w signed bytes
+signed_is w z signed read bytes plain is low high within same =
+    is ∙ sym (ap (λ (b : Bool). if b then twos_complement w (little_number w read) else pos (little_number w read)) plain)
+    ∙ number_is w signed read bytes low high within same

@@ -1,7 +1,7 @@
 -- What is said of keys has the laws of keys. The trait's laws cite this, so no tactic stands here.
-use Rattle.std.specs.Prelude.{◌≡◌, ◌≢◌, ◌⊎◌, ◌↔◌, ◌==◌, ◌&&◌, ◌++◌, ℕ, zero, suc, List, [], ◌∷◌, take, slice_get, Option, Some, None, IsSome, is_some, Bool, true, false, refl, eqb, if◌then◌else◌}
+use Rattle.std.specs.Prelude.{◌≡◌, ◌≢◌, ◌⊎◌, ◌↔◌, ◌&&◌, ◌++◌, ℕ, zero, suc, List, [], ◌∷◌, take, slice_get, Option, Some, None, IsSome, is_some, Bool, true, false, refl, eqb, if◌then◌else◌}
 use Rattle.std.specs.List.{cons_option}
-use Rattle.std.specs.Option.{option_map, option_map_or, option_and_then, ForSome}
+use Rattle.std.specs.Option.{option_map, option_map_or, option_and_then}
 use mathlib.Core.Bool.{false≢true}
 use mathlib.Core.Logic.{inl, inr}
 use mathlib.Core.Path.{sym, ap, ◌∙◌}
@@ -14,16 +14,16 @@ use Rattle.rdb_cells.specs.declared.kind.Kind.{Kind}
 use Rattle.rdb_cells.specs.declared.kind.Kind.TheVariants as kind
 use Rattle.rdb_cells.specs.declared.formats.version.VersionHeader.{VersionHeader}
 use Rattle.rdb_cells.specs.Images.{Image}
-use Rattle.rdb_cells.specs.Keys.{Version, IsOfVersion, SameVersionCells, KeysFit, RestsOnVersions, StandsAtHeader}
+use Rattle.rdb_cells.specs.Keys.{Version, SameVersionCells, KeysFit, RestsOnVersions, StandsAtHeader}
 use Rattle.rdb_cells.specs.RowFormat.{row_in}
 use Rattle.rdb_cells.specs.VersionFormat.{header_in}
-use Rattle.rdb_cells.specs.Words.{kind_number, number_of, IsOfKind, HasKind}
+use Rattle.rdb_cells.specs.Words.{kind_number, number_of, IsOfKind}
 use Rattle.rdb_rows.specs.Rows.{cells_for}
 use Rattle.rdb_rows.specs.RowKeys.{KeyShape, picked, key_types, of_kind, bytes_from, same_bytes, if_encoded, row_of, row_at, keyed, version_of_header, version_at, key_meaning}
 use Rattle.rdb_schema.specs.Encoding.{row_bytes}
 use Rattle.rdb_access.specs.Read.{read_values}
 
-none_some : {X : Type 0} (x : X) → None ≡ Some x → ⊥
+pub none_some : {X : Type 0} (x : X) → None ≡ Some x → ⊥
 none_some {X = X} x e = false≢true (ap (λ (o : Option X). is_some o) e)
 
 the_some : {X : Type 0} (x y : X) → Some x ≡ Some y → x ≡ y

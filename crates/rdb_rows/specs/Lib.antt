@@ -7,3 +7,4 @@ pub mod RowKeys
 pub mod KeyLaws
 pub mod Places
 pub mod RowSpots
+pub mod KeySayings

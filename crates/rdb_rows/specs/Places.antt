@@ -1,5 +1,5 @@
 -- Where fields begin in a row's bytes: the fields of one size are joined into offsets, and those that vary in size are steps.
-use Rattle.std.specs.Prelude.{◌≡◌, ◌<◌, ◌≤◌, ℕ, suc, List, [], ◌∷◌, ◌++◌, length, drop, slice_get, Some, true}
+use Rattle.std.specs.Prelude.{◌≡◌, ◌<◌, ℕ, suc, map, List, [], ◌∷◌, ◌++◌, length, drop, slice_get, Some, true}
 use Rattle.rdb_base.specs.declared.value.Value.{Value}
 use Rattle.rdb_schema.specs.declared.types.ValueType.{ValueType}
 use Rattle.rdb_schema.specs.declared.types.ValueType.TheVariants as values
@@ -7,8 +7,7 @@ use Rattle.rdb_schema.specs.Encoding.{row_bytes}
 use Rattle.rdb_schema.specs.Types.{row_fits}
 use Rattle.rdb_rows.specs.declared.places.Step.{Step}
 use Rattle.rdb_rows.specs.declared.places.Place.{Place}
-use Rattle.rdb_rows.specs.declared.row_keys.KeyField.{KeyField}
-use Rattle.rdb_rows.specs.RowKeys.{KeyShape}
+use Rattle.rdb_rows.specs.declared.key_fields.KeyField.{KeyField}
 
 -- in a row these bytes stand between where one field begins and where another does
 pub record IsBetween (types : List ValueType) (row : List Value) (start end offset : ℕ) : Type 0 where
@@ -44,3 +43,7 @@ pub record IsKeyField (types : List ValueType) (f : KeyField) : Type 0 where
 abbrev pub AreKeyFields : List ValueType → List KeyField → Type 0
 AreKeyFields types [] = Unit {0}
 AreKeyFields types (f ∷ fs) = IsKeyField types f × AreKeyFields types fs
+
+-- the numbers of a key's fields
+abbrev pub numbers_in : List KeyField → List ℕ
+numbers_in fields = map (λ f. f.field) fields

@@ -48,7 +48,10 @@ pub record PutsRow (before after : Work) (first : ℕ) (bytes : List ℕ) : Type
   pub count : length row_cells ≡ cells_for (length bytes)
   pub begins : first ≡ first_or 0 row_cells
   pub lowest : AreNextLeft before row_cells
-  pub planned : after ≡ record before { pairs = before.pairs ++ part_pairs 0 row_cells (row_parts bytes); taken = last_number before.taken row_cells }
+  pub planned : after ≡ record before {
+    pairs = before.pairs ++ part_pairs 0 row_cells (row_parts bytes);
+    taken = last_number before.taken row_cells;
+  }
 
 -- A version was put: its header took the lowest cell that was left, its row the next ones. The plan says besides what these
 -- hold, the row first; and so the version stands there.

@@ -1,5 +1,5 @@
 -- What the cells of a version say of its key.
-use Rattle.std.specs.Prelude.{◌≡◌, ◌==◌, ◌&&◌, ◌++◌, ℕ, zero, suc, List, [], ◌∷◌, take, slice_get, Option, Some, None, IsSome, Bool, true, false, Contains, if◌then◌else◌}
+use Rattle.std.specs.Prelude.{◌≡◌, ◌==◌, ◌&&◌, ◌++◌, ℕ, zero, suc, List, [], ◌∷◌, take, slice_get, Option, Some, None, Bool, true, false, Contains, if◌then◌else◌}
 use Rattle.std.specs.List.{filter_map}
 use Rattle.std.specs.Option.{option_map, option_map_or, option_and_then}
 use Rattle.rdb_base.specs.declared.value.Value.{Value}
@@ -12,7 +12,6 @@ use Rattle.rdb_schema.specs.Indexes.{fields_of}
 use Rattle.rdb_schema.specs.Types.{row_fits, types_of}
 use Rattle.rdb_access.specs.Read.{read_values}
 use Rattle.rdb_pages.specs.declared.cell.Cell.{Cell}
-use Rattle.rdb_cells.specs.declared.formats.row.RowCell.{RowCell}
 use Rattle.rdb_cells.specs.declared.formats.version.VersionHeader.{VersionHeader}
 use Rattle.rdb_cells.specs.declared.kind.Kind.{Kind}
 use Rattle.rdb_cells.specs.declared.kind.Kind.TheVariants as kind

@@ -8,7 +8,7 @@ use Rattle.rdb_schema.specs.Encoding.{row_bytes}
 use Rattle.rdb_schema.specs.Types.{row_fits}
 use Rattle.rdb_access.specs.Read.{read_values}
 use Rattle.rdb_cells.specs.Images.{Image}
-use Rattle.rdb_rows.specs.declared.row_keys.KeyField.{KeyField}
+use Rattle.rdb_rows.specs.declared.key_fields.KeyField.{KeyField}
 use Rattle.rdb_rows.specs.declared.spot.Spot.{Spot}
 use Rattle.rdb_rows.specs.Spots.{Stand, BeginsLeaf}
 

@@ -61,8 +61,8 @@ fn hash_number(hash: u32, width: u8, signed: bool, number: i128) -> u32
 }
 
 /// Goes on with a hash over a box's bytes.
-fn hash_rect(hash: u32, rect: Rect) -> u32
-    ensures { result ≡ fold fnv_step hash (rect_bytes rect) }
+fn hash_rect(hash: u32, rect: &Rect) -> u32
+    ensures { result ≡ fold fnv_step hash (rect_bytes rect.now) }
 {
     let hash = hash_number(hash, 4, true, i128::from(rect.x1));
     let hash = hash_number(hash, 4, true, i128::from(rect.y1));
@@ -83,7 +83,7 @@ pub(crate) fn hash_value(hash: u32, ty: FieldType, leaf: &Leaf) -> u32
             let words = words.as_str().as_bytes();
             hash_bytes(hash_byte(hash, words.len() as u8), words)
         }
-        (FieldType::Box4, Leaf::Rect(rect)) => hash_rect(hash, *rect),
+        (FieldType::Box4, Leaf::Rect(rect)) => hash_rect(hash, rect),
         _ => hash,
     }
 }

@@ -77,12 +77,16 @@ pub(crate) fn order_leaves<C: Cells>(cells: &C, a: Spot, b: Spot, ty: FieldType)
         FieldType::Num { bytes, signed } => {
             let mut left = a;
             let mut right = b;
-            next_number(cells, &mut left, bytes, signed).cmp(&next_number(
-                cells, &mut right, bytes, signed,
-            ))
+            let first = next_number(cells, &mut left, bytes, signed);
+            let second = next_number(cells, &mut right, bytes, signed);
+            first.cmp(&second)
         }
         FieldType::Str => order_texts(cells, a, b),
-        FieldType::Box4 => rect_at(cells, a).cmp(&rect_at(cells, b)),
+        FieldType::Box4 => {
+            let first = rect_at(cells, a);
+            let second = rect_at(cells, b);
+            first.cmp(&second)
+        }
         FieldType::Vector(_) | FieldType::Struct(_) => Ordering::Equal,
     }
 }

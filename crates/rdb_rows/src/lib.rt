@@ -1,8 +1,10 @@
-//! The versions of objects in cells: a header for each, and its row in a chain of row cells.
+//! The versions of objects in cells: a header for each, and its row in a chain of row cells. Also the keys that indexes go by,
+//! read from the cells as they stand.
 #![tactic(auto)]
 
 mod decode;
 mod hash;
+mod key_fields;
 mod label;
 mod laws;
 mod leaves;
@@ -18,7 +20,8 @@ mod walk;
 pub use decode::row_in;
 pub use label::Label;
 pub use laws::{
-    a_place_has_one_version, a_put_version_keeps_the_others, versions_rest_on_their_cells,
+    a_place_has_one_version, a_put_version_keeps_the_others, keys_say_what_versions_hold,
+    versions_rest_on_their_cells,
 };
 pub use row_keys::RowKeys;
 pub use versions::{

@@ -1,5 +1,5 @@
 //! Where the fields of a row begin, as steps to them. It reads types alone.
-ghost use Rattle.std.specs.Prelude.{◌≡◌, ◌<◌, ℕ, List, IfOk, IfSome, length, true};
+ghost use Rattle.std.specs.Prelude.{◌≡◌, ◌<◌, ◌+◌, ℕ, List, IfOk, IfSome, length, true};
 ghost use Rattle.rdb_base.specs.declared.value.Value.{Value};
 ghost use Rattle.rdb_base.specs.declared.value.Leaf.{Leaf};
 ghost use Rattle.rdb_schema.specs.Values.{leaf_holds};
@@ -37,11 +37,12 @@ fn leaf_size(ty: FieldType) -> Option<usize>
 }
 
 fn group_size(types: &LeafTypes) -> Option<usize>
-    ensures { IfSome result (λ size. (ls : List Leaf) → all_pairs leaf_holds types.now ls ≡ true → length (leaves_bytes types.now ls) ≡ size) }
+    ensures { IfSome result (λ size. (ls : List Leaf) → all_pairs leaf_holds types.now ls ≡ true
+        → length (leaves_bytes types.now ls) ≡ size) }
 {
     let mut total: usize = 0;
-    for ty in types.as_slice() {
-        let Some(size) = leaf_size(*ty) else {
+    for at in 0..types.len() {
+        let Some(size) = leaf_size(*types.at(at)) else {
             return None;
         };
         let Some(sum) = total.checked_add(size) else {
@@ -62,8 +63,11 @@ fn value_size(ty: &ValueType) -> Option<usize>
     }
 }
 
-/// Returns how many bytes behind an offset the field after this one begins, where that is so many in every row.
-fn offset_behind(ty: &ValueType, offset: usize) -> Option<usize> {
+/// Returns the offset of the field after this one, where this one has one size.
+fn offset_behind(ty: &ValueType, offset: usize) -> Option<usize>
+    ensures { IfSome result (λ behind. (size : ℕ) × (behind ≡ offset + size)
+        × ((v : Value) → value_fits ty.now v ≡ true → length (value_bytes ty.now v) ≡ size)) }
+{
     let Some(size) = value_size(ty) else {
         return None;
     };

@@ -1,5 +1,5 @@
 //! A place in a row in cells, from which bytes are read one after another. It reads cells, and takes no memory.
-ghost use Rattle.std.specs.Prelude.{◌≡◌, ◌<◌, ◌≤◌, ◌+◌, ◌^◌, ◌∷◌, ℕ, List, length, drop};
+ghost use Rattle.std.specs.Prelude.{◌≡◌, ◌<◌, ◌≤◌, ◌+◌, ◌^◌, ◌∷◌, ℕ, List, length, take, drop};
 ghost use Rattle.rdb_cells.specs.Images.{Image};
 ghost use Rattle.rdb_cells.specs.RowFormat.{row_in, row_cell_bytes};
 ghost use Rattle.rdb_access.specs.Walk.{number_from};
@@ -28,7 +28,8 @@ const EDGE: usize = 4;
 pub(crate) fn skip(spot: Spot, many: usize) -> Spot
     requires { spot.place + many < 2 ^ 32 }
     ensures value { result ≡ record { cell = spot.cell; place = spot.place + many } }
-    ensures stand { (image : Image) (bytes : List ℕ) → many ≤ length bytes → Stand image spot bytes → Stand image result (drop many bytes) }
+    ensures stand { (image : Image) (bytes : List ℕ) → many ≤ length bytes → Stand image spot bytes
+        → Stand image result (drop many bytes) }
 {
     Spot {
         cell: spot.cell,
@@ -47,7 +48,8 @@ fn is_whole(cell: &Cell)
 fn settle<C: Cells>(cells: &C, spot: Spot) -> Spot
     requires { HasBytes (C.image cells.now) spot 1 }
     ensures within { result.place < ROW_CELL_BYTES }
-    ensures stand { (bytes : List ℕ) → 0 < length bytes → Stand (C.image cells.now) spot bytes → Stand (C.image cells.now) result bytes }
+    ensures stand { (bytes : List ℕ) → 0 < length bytes → Stand (C.image cells.now) spot bytes
+        → Stand (C.image cells.now) result bytes }
 {
     let mut settled = spot;
     while settled.place >= ROW_CELL_BYTES {
@@ -80,7 +82,7 @@ fn next_bytes<C: Cells>(cells: &C, spot: &mut Spot, many: usize) -> [u8; MAX_WID
     requires many { many ≤ MAX_WIDTH }
     requires bytes { HasBytes (C.image cells.now) spot.old many }
     ensures { (bytes : List ℕ) → many ≤ length bytes → Stand (C.image cells.now) spot.old bytes
-        → (Rattle.std.specs.Prelude.take many result ≡ Rattle.std.specs.Prelude.take many bytes) × Stand (C.image cells.now) spot.new (drop many bytes) }
+        → (take many result ≡ take many bytes) × Stand (C.image cells.now) spot.new (drop many bytes) }
 {
     let mut bytes = [0; MAX_WIDTH];
     for at in 0..many {

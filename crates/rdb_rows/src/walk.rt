@@ -40,8 +40,8 @@ fn after_leaves<C: Cells>(cells: &C, spot: Spot, types: &LeafTypes) -> Spot
     ensures { Leads leaves_bytes (λ ts ls. all_pairs leaf_holds ts ls ≡ true) (C.image cells.now) spot types.now result }
 {
     let mut behind = spot;
-    for ty in types.as_slice() {
-        behind = after_leaf(cells, behind, *ty);
+    for at in 0..types.len() {
+        behind = after_leaf(cells, behind, *types.at(at));
     }
     behind
 }
@@ -95,8 +95,10 @@ pub(crate) fn find<C: Cells>(cells: &C, first: Spot, types: &ValueTypes, place: 
         → Stand (C.image cells.now) result (row_bytes (drop field types.now) (drop field row) ++ rest) }
 {
     let mut spot = first;
-    for step in place.steps.as_slice() {
-        spot = after_value(cells, skip(spot, step.offset), types.at(step.field));
+    for at in 0..place.steps.len() {
+        let step = *place.steps.at(at);
+        let there = skip(spot, step.offset);
+        spot = after_value(cells, there, types.at(step.field));
     }
     skip(spot, place.offset)
 }

@@ -1,5 +1,5 @@
 -- What the cells of a class hold: its objects and their versions.
-use Rattle.std.specs.Prelude.{◌≡◌, ◌≢◌, ◌<◌, ◌⊎◌, ◌↔◌, ℕ, List, Some, Contains}
+use Rattle.std.specs.Prelude.{◌≡◌, ◌≢◌, ◌<◌, ◌⊎◌, ◌↔◌, ℕ, List, Option, Some, Contains}
 use Rattle.rdb_pages.specs.declared.cell.CellRef.{CellRef}
 use Rattle.rdb_pages.specs.Pages.{zero_cell}
 use Rattle.rdb_cells.specs.Images.{Image}
@@ -22,7 +22,7 @@ pub record Agrees (index : Nature) (keys : Meaning) (image : Image) (objects : L
 -- each index of the class agrees with its objects
 abbrev pub AllAgree : ClassNature → Image → List Object → Layout → Type 0
 AllAgree class image objects layout = (place : ℕ) → place < class.count →
-    let keyed = class.at place in Agrees keyed.index keyed.keys image objects (layout.of_index place)
+    Agrees (class.at place).index (class.at place).keys image objects (layout.of_index place)
 
 -- the class has this part
 abbrev pub IsPart : ClassNature → List Object → Part → Type 0

@@ -1,3 +1,4 @@
+pub mod Classes
 pub mod Shapes
 pub mod ClassIndexes
 pub mod Layouts
@@ -5,6 +6,8 @@ pub mod Stored
 pub mod Holds
 pub mod Laws
 pub mod Chains
+pub mod Midway
+pub mod Indexed
 pub mod Plans
 pub mod Lookups
 pub mod Kept

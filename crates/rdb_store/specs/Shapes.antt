@@ -9,15 +9,14 @@ use Rattle.rdb_schema.specs.declared.schema.Schema.{Schema}
 use Rattle.rdb_schema.specs.declared.types.ValueType.{ValueType}
 use Rattle.rdb_schema.specs.Indexes.{indexes_of}
 use Rattle.rdb_schema.specs.Types.{types_of}
-use Rattle.rdb_pages.specs.declared.cell.CellRef.{CellRef}
-use Rattle.rdb_cells.specs.Images.{Image}
 use Rattle.rdb_cells.specs.Index.{Nature}
-use Rattle.rdb_cells.specs.Keys.{Meaning, Sayings}
+use Rattle.rdb_cells.specs.Keys.{Meaning}
 use Rattle.rdb_cells.specs.References.{index_head_ref}
-use Rattle.rdb_rows.specs.RowKeys.{KeyShape, key_meaning}
+use Rattle.rdb_rows.specs.RowKeys.{key_meaning, picked}
 use Rattle.rdb_hash.specs.Shape.{hash_nature}
 use Rattle.rdb_tree.specs.Nature.{tree_nature}
 use Rattle.rdb_space.specs.Claim.{part_of_kind, row_cells}
+use Rattle.rdb_store.specs.Classes.{ClassNature, never}
 
 -- an index: its kind, and the numbers of its key's fields
 pub record IndexShape : Type 0 where
@@ -54,23 +53,39 @@ no_class = record { number = 0; types = []; indexes = [] }
 abbrev pub shape_in : List ClassShape → ℕ → ClassShape
 shape_in shapes class = slice_index_or shapes class no_class
 
--- the nature of an index that never stands
-abbrev pub never : ℕ → ℕ → Nature
-never class head = record { class = class; head = head; part = 0; Stands = λ said image listed nodes. ⊥ }
-
 -- the nature of a class's index, by its place and its kind; an index that no store serves never stands
 abbrev pub nature_of : ℕ → ℕ → IndexKind → Nature
 nature_of class place Hash = hash_nature class (index_head_ref class place).number
 nature_of class place Tree = tree_nature class (index_head_ref class place).number
 nature_of class place _ = never class (index_head_ref class place).number
 
--- where the key of an index stands in a row
-abbrev pub key_of : ClassShape → IndexShape → KeyShape
-key_of shape index = record { types = shape.types; fields = index.fields }
-
--- what the keys of an index mean
+-- what the keys of an index of a class mean
 abbrev pub meaning_of : ClassShape → IndexShape → Meaning
-meaning_of shape index = key_meaning (key_of shape index)
+meaning_of shape index = key_meaning (record { types = shape.types; fields = index.fields })
+
+-- the shape of the index at a place; of an index that isn't there, one that no store serves
+abbrev pub index_at : ClassShape → ℕ → IndexShape
+index_at shape place = slice_index_or shape.indexes place (record { kind = Patricia; fields = [] })
+
+-- the class of a shape, as its cells know it
+abbrev pub nature_of_class : ClassShape → ClassNature
+nature_of_class shape = record {
+  number = shape.number;
+  types = shape.types;
+  count = length shape.indexes;
+  at = λ place. record {
+    index = nature_of shape.number place (index_at shape place).kind;
+    keys = meaning_of shape (index_at shape place);
+    key_in = λ row. picked row (index_at shape place).fields;
+  };
+}
+
+-- the class with this number, of a store and of a schema
+abbrev pub class_in : List ClassShape → ℕ → ClassNature
+class_in shapes class = nature_of_class (shape_in shapes class)
+
+abbrev pub schema_class : Schema → ℕ → ClassNature
+schema_class schema class = nature_of_class (class_shape schema class)
 
 -- whether a store serves indexes of the kind
 abbrev pub is_served : IndexKind → Bool

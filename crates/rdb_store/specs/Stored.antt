@@ -1,18 +1,16 @@
 -- Versions, and the cells that say them.
-use Rattle.std.specs.Prelude.{◌≡◌, ℕ, List, [], ◌∷◌, map, Option, Some, None, IsSome, IsTrue, Contains}
+use Rattle.std.specs.Prelude.{◌≡◌, ℕ, List, [], ◌∷◌, map, Option, Some, None, IsSome, Contains}
 use Rattle.std.specs.Option.{option_map}
 use Rattle.rdb_base.specs.declared.value.Value.{Value}
 use Rattle.rdb_schema.specs.declared.types.ValueType.{ValueType}
 use Rattle.rdb_schema.specs.Encoding.{row_bytes}
-use Rattle.rdb_schema.specs.Proper.{IsProperRow}
-use Rattle.rdb_schema.specs.Types.{row_fits}
 use Rattle.rdb_pages.specs.declared.cell.CellRef.{CellRef}
 use Rattle.rdb_cells.specs.Images.{Image}
 use Rattle.rdb_rows.specs.Versions.{Version as StoredVersion, HoldsVersion}
 use Rattle.rdb_objects.specs.Objects.{Object as Linked, newest_of}
 use Rattle.rdb_sight.specs.Versions.{Version, Object, chain_of}
 use Rattle.rdb_store.specs.Layouts.{Layout}
-use Rattle.rdb_store.specs.Classes.{ClassNature}
+use Rattle.rdb_store.specs.Classes.{ClassNature, IsProper}
 
 -- the reference of a version's header
 abbrev pub ref_of : Version → CellRef
@@ -31,7 +29,7 @@ all_linked objects = map linked objects
 -- a version has a row of these types, one that a program can hold, or none
 abbrev pub IsRow : List ValueType → Option (List Value) → Type 0
 IsRow types None = Unit {0}
-IsRow types (Some row) = IsTrue (row_fits types row) × IsProperRow row
+IsRow types (Some row) = IsProper types row
 
 -- a version of an object, in front of the older ones, as its cells say it
 abbrev pub as_stored : ClassNature → ℕ → Version → List Version → StoredVersion

@@ -5,6 +5,7 @@ ghost use Rattle.rdb_rows.specs.Decoded.{IsRowOf};
 ghost use Rattle.rdb_rows.specs.Versions.{HasVersion, ForVersion};
 
 use crate::class_index::ClassIndex;
+use crate::keyed::Keyed;
 use rdb_access::accessors::Accessors;
 use rdb_base::list::{List, NoMemory};
 use rdb_base::value::Row;
@@ -16,12 +17,8 @@ use rdb_schema::schema::{IndexDecl, Schema};
 use std::alloc::Global;
 use std::marker::Model;
 
-/// An index with the keys that it goes by.
-#[derive(Drop)]
-pub struct KeyedIndex {
-    pub index: ClassIndex,
-    pub keys: RowKeys,
-}
+/// An index of a class, with the keys that it goes by.
+pub type KeyedIndex = Keyed<ClassIndex, RowKeys>;
 
 /// The store of a class. Contracts see the class's number, the types of its fields and its indexes as declared.
 #[derive(Drop)]
@@ -53,7 +50,7 @@ fn keyed_index(
     place: u32,
     declared: &IndexDecl,
 ) -> Result<KeyedIndex, NoMemory> {
-    Ok(KeyedIndex {
+    Ok(Keyed {
         index: ClassIndex::of(alloc, declared.kind, class, place),
         keys: RowKeys::of(alloc, schema, class, place)?,
     })

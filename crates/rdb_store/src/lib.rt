@@ -5,15 +5,16 @@
 
 mod class_index;
 mod class_store;
+mod keyed;
 mod laws;
 mod plans;
 mod store;
 #[cfg(test)]
 mod tests;
-mod walk;
 
 pub use class_index::ClassIndex;
 pub use class_store::{ClassStore, KeyedIndex};
+pub use keyed::Keyed;
 pub use laws::{
     an_empty_class_holds_nothing, an_image_holds_one_list, classes_rest_on_their_cells,
     granted_pages_change_nothing, stamps_change_the_stamp,

@@ -1,7 +1,8 @@
 //! The steps of a plan on one class: a version is put, or one is taken out, with its object's slot and every index.
-use crate::class_store::{ClassStore, KeyedIndex};
+use crate::class_store::ClassStore;
+use crate::keyed::{put_into, take_from};
 use rdb_base::identity::Stamp;
-use rdb_cells::{Cells, Index, NONE, Overlay};
+use rdb_cells::{Cells, NONE, Overlay};
 use rdb_pages::CellRef;
 use rdb_rows::{Label, give_back, id_in, is_tombstone, put_tombstone, put_version};
 
@@ -29,20 +30,6 @@ fn label_of<C: Cells>(class: &ClassStore, new: &NewVersion, cells: &C) -> Label 
             .objects()
             .newest_version(cells, new.id)
             .unwrap_or(NONE),
-    }
-}
-
-/// Puts the version into each of the indexes, as declared.
-fn put_into<C: Cells>(indexes: &[KeyedIndex], cells: &mut Overlay<C>, version: CellRef) {
-    for keyed in indexes {
-        keyed.index.put(cells, &keyed.keys, version);
-    }
-}
-
-/// Takes the version out of each of the indexes, as declared.
-fn take_from<C: Cells>(indexes: &[KeyedIndex], cells: &mut Overlay<C>, version: CellRef) {
-    for keyed in indexes {
-        keyed.index.remove(cells, &keyed.keys, version);
     }
 }
 

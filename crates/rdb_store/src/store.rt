@@ -9,11 +9,10 @@ ghost use Rattle.rdb_sight.specs.Versions.{chain_of};
 
 use crate::class_store::ClassStore;
 use crate::plans::{NewVersion, put_death, put_row, take_out};
-use crate::walk::gather_newest;
 use rdb_base::identity::Stamp;
 use rdb_base::limits::MAX_ROW;
 use rdb_base::list::{List, NoMemory};
-use rdb_cells::{Cells, Overlay, Refs};
+use rdb_cells::{Cells, Overlay};
 use rdb_pages::{Cell, CellRef};
 use rdb_rows::with_stamp;
 use rdb_schema::schema::Schema;
@@ -23,7 +22,6 @@ use std::marker::Model;
 /// The store of each class of a schema. Contracts see the classes' shapes.
 #[derive(Drop)]
 pub struct Store {
-    alloc: Global,
     classes: List<ClassStore>,
 }
 
@@ -44,7 +42,7 @@ impl Store {
     ghost use Rattle.rdb_store.specs.Holds.{HoldsSome, Whatever};
     ghost use Rattle.rdb_store.specs.Plans.{Restamps};
     ghost use Rattle.rdb_store.specs.Plans.{IsFresh, HoldsBelow, WhateverBelow, WhateverRow, Puts, Drops, PlansOnlyClass};
-    ghost use Rattle.rdb_store.specs.Shapes.{IsServed, shapes_of, shape_in, claim_in};
+    ghost use Rattle.rdb_store.specs.Shapes.{IsServed, shapes_of, shape_in, class_in, claim_in};
     ghost use Rattle.rdb_store.specs.Stored.{HasHeader};
 
     /// Makes the store of a schema, every index of which is a hash or a tree. The cost grows with the schema. The only error is
@@ -58,7 +56,7 @@ impl Store {
         for number in 0..schema.classes.len() {
             classes.push(ClassStore::of(alloc, schema, number as u32)?)?;
         }
-        Ok(Store { alloc, classes })
+        Ok(Store { classes })
     }
 
     /// Lends what is kept of a class.
@@ -82,15 +80,15 @@ impl Store {
     ) -> CellRef
         requires class { new.now.class < length self.now }
         requires fresh { IsFresh new.now.class (work C.Cells cells.old) }
-        requires holds { HoldsBelow (shape_in self.now new.now.class) (work C.Cells cells.old) }
-        requires serial { WhateverBelow (shape_in self.now new.now.class) (work C.Cells cells.old) (IsNewSerial new.now.serial) }
-        requires replaces { WhateverBelow (shape_in self.now new.now.class) (work C.Cells cells.old)
+        requires holds { HoldsBelow (class_in self.now new.now.class) (work C.Cells cells.old) }
+        requires serial { WhateverBelow (class_in self.now new.now.class) (work C.Cells cells.old) (IsNewSerial new.now.serial) }
+        requires replaces { WhateverBelow (class_in self.now new.now.class) (work C.Cells cells.old)
             (λ objects. CanReplace new.now.replaces (chain_of objects new.now.id)) }
-        requires row { (row : List Value) × Encodes (shape_in self.now new.now.class).types row bytes.now }
+        requires row { (row : List Value) × Encodes (class_in self.now new.now.class).types row bytes.now }
         requires short { length bytes.now ≤ MAX_ROW }
         requires free { HasLeft (work C.Cells cells.old) (claim_in (shape_in self.now new.now.class) (length bytes.now)) }
-        ensures puts { WhateverRow (shape_in self.now new.now.class) bytes.now
-            (Puts (shape_in self.now new.now.class) (work C.Cells cells.old) (work C.Cells cells.new) new.now result.number) }
+        ensures puts { WhateverRow (class_in self.now new.now.class) bytes.now
+            (Puts (class_in self.now new.now.class) (work C.Cells cells.old) (work C.Cells cells.new) new.now result.number) }
         ensures own { PlansOnlyClass new.now.class (work C.Cells cells.new) }
         ensures claim { TakesAtMost (claim_in (shape_in self.now new.now.class) (length bytes.now))
             (work C.Cells cells.old) (work C.Cells cells.new) }
@@ -112,14 +110,14 @@ impl Store {
     pub fn plan_tombstone<C: Cells>(&self, new: &NewVersion, cells: &mut Overlay<C>) -> CellRef
         requires class { new.now.class < length self.now }
         requires fresh { IsFresh new.now.class (work C.Cells cells.old) }
-        requires holds { HoldsBelow (shape_in self.now new.now.class) (work C.Cells cells.old) }
-        requires object { WhateverBelow (shape_in self.now new.now.class) (work C.Cells cells.old)
+        requires holds { HoldsBelow (class_in self.now new.now.class) (work C.Cells cells.old) }
+        requires object { WhateverBelow (class_in self.now new.now.class) (work C.Cells cells.old)
             (λ objects. chain_of objects new.now.id ≢ []) }
-        requires serial { WhateverBelow (shape_in self.now new.now.class) (work C.Cells cells.old) (IsNewSerial new.now.serial) }
-        requires replaces { WhateverBelow (shape_in self.now new.now.class) (work C.Cells cells.old)
+        requires serial { WhateverBelow (class_in self.now new.now.class) (work C.Cells cells.old) (IsNewSerial new.now.serial) }
+        requires replaces { WhateverBelow (class_in self.now new.now.class) (work C.Cells cells.old)
             (λ objects. CanReplace new.now.replaces (chain_of objects new.now.id)) }
         requires free { HasLeft (work C.Cells cells.old) 1 }
-        ensures puts { Puts (shape_in self.now new.now.class) (work C.Cells cells.old) (work C.Cells cells.new) new.now result.number None }
+        ensures puts { Puts (class_in self.now new.now.class) (work C.Cells cells.old) (work C.Cells cells.new) new.now result.number None }
         ensures own { PlansOnlyClass new.now.class (work C.Cells cells.new) }
         ensures claim { TakesAtMost 1 (work C.Cells cells.old) (work C.Cells cells.new) }
         ensures room { cells.new.plan.room ≡ cells.old.plan.room }
@@ -140,9 +138,9 @@ impl Store {
     pub fn plan_drop<C: Cells>(&self, class: u32, version: CellRef, cells: &mut Overlay<C>)
         requires class { class < length self.now }
         requires fresh { IsFresh class (work C.Cells cells.old) }
-        requires holds { HoldsBelow (shape_in self.now class) (work C.Cells cells.old) }
-        requires version { WhateverBelow (shape_in self.now class) (work C.Cells cells.old) (λ objects. HasHeader objects version.number) }
-        ensures drops { Drops (shape_in self.now class) (work C.Cells cells.old) (work C.Cells cells.new) version.number }
+        requires holds { HoldsBelow (class_in self.now class) (work C.Cells cells.old) }
+        requires version { WhateverBelow (class_in self.now class) (work C.Cells cells.old) (λ objects. HasHeader objects version.number) }
+        ensures drops { Drops (class_in self.now class) (work C.Cells cells.old) (work C.Cells cells.new) version.number }
         ensures own { PlansOnlyClass class (work C.Cells cells.new) }
         ensures takes_none { TakesNone (work C.Cells cells.old) (work C.Cells cells.new) }
         ensures room { cells.new.plan.room ≡ cells.old.plan.room }
@@ -155,20 +153,12 @@ impl Store {
     /// with that stamp. The cost is that of one read.
     pub fn stamped<C: Cells>(&self, class: u32, version: CellRef, stamp: Stamp, cells: &C) -> Cell
         requires class { class < length self.now }
-        requires holds { HoldsSome (shape_in self.now class) (C.image cells.now) (C.class_of cells.now) }
-        requires version { Whatever (shape_in self.now class) (C.image cells.now) (C.class_of cells.now)
+        requires holds { HoldsSome (class_in self.now class) (C.image cells.now) (C.class_of cells.now) }
+        requires version { Whatever (class_in self.now class) (C.image cells.now) (C.class_of cells.now)
             (λ objects. HasHeader objects version.number) }
         ensures { (after : Image) → Writes (C.image cells.now) after version.number result →
-            Restamps (shape_in self.now class) (C.image cells.now) after (C.class_of cells.now) version.number stamp }
+            Restamps (class_in self.now class) (C.image cells.now) after (C.class_of cells.now) version.number stamp }
     {
         with_stamp(cells, version, stamp)
-    }
-
-    /// Lists the newest version of each object of a class. The only error is want of memory. The cost grows with the number of
-    /// objects.
-    pub fn newest<C: Cells>(&self, class: u32, cells: &C) -> Result<Refs, NoMemory> {
-        let mut newest = List::new(self.alloc);
-        gather_newest(cells, class, &mut newest)?;
-        Ok(newest)
     }
 }

@@ -1,5 +1,4 @@
-use Rattle.std.proofs.Common.{◌≡◌, ◌<◌, ◌≤◌, ◌+◌, ◌++◌, ◌∷◌, List, ℕ, length, drop, length-append, refl, ap, subst, ◌∙◌, arith}
-use Rattle.rdb_rows.specs.Spots.{Stand}
+use Rattle.std.proofs.Common.{◌++◌, ◌∷◌, length-append, ◌∙◌, arith}
 use Rattle.rdb_rows.proofs.Puttings.{a_cell}
 use Rattle.rdb_rows.proofs.SpotLemmas.{has_cell, byte_stand}
 use Rattle.rdb_rows.proofs.spot.next_byte.Goals as goal
@@ -15,8 +14,7 @@ read-cell-requires g c =
 pub returns : goal.returns
 returns g c byte rest stand =
     let image = g.C.Cells.image c.args.cells.now in
-    let settled = c.settle-settled.ensures.stand (byte ∷ rest) (omega arith) stand in
-    (
+    let settled = c.settle-settled.ensures.stand (byte ∷ rest) (omega arith) stand in (
       c.byte_in-byte.ensures ∙ byte_stand image c.settle-settled.result c.read-cell.result.now byte rest c.settle-settled.ensures.within c.read-cell.ensures c.is_whole.ensures settled,
       c.skip.ensures.stand image (byte ∷ rest) (omega arith) settled,
     )

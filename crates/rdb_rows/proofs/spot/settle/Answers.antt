@@ -1,4 +1,4 @@
-use Rattle.std.proofs.Common.{◌≡◌, ◌<◌, ◌≤◌, ◌-◌, ◌++◌, List, ℕ, length, length-append, refl, ap, arith}
+use Rattle.std.proofs.Common.{◌-◌, ◌++◌, length-append, arith}
 use Rattle.rdb_rows.specs.declared.spot.Spot.{Spot}
 use Rattle.rdb_rows.proofs.Puttings.{a_cell}
 use Rattle.rdb_rows.proofs.SpotLemmas.{has_cell, settle_stand}

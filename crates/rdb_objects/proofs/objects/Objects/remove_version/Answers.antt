@@ -36,7 +36,7 @@ returns-then-ne-clause-removes g c =
     subst (λ (v : Work). RemovesVersion c.args.self.class w v c.args.id c.args.version) (sym after)
     (removes_older c.args.self.class w c.find-spot.result c.args.id c.args.version c.of_cell-slot.result.newest c.newer_than-newer.result c.older_in-older.result c.planned-2.result.now c.planned.result.now c.planned-then-ne.result.now c.with_older-cell.result
     c.find-spot.ensures some c.requires.version c.planned-2.ensures.planned (ap (λ (s : ObjectSlot). s.newest) c.of_cell-slot.ensures.value) c.planned.ensures.planned c.older_in-older.ensures
-    c.newer_than-newer.ensures c.planned-then-ne.ensures.planned c.with_older-cell.ensures.kind c.with_older-cell.ensures.value)
+    c.newer_than-newer.ensures c.planned-then-ne.ensures.planned c.with_older-cell.ensures.kind c.with_older-cell.ensures.value c.with_older-cell.ensures.whole)
 
 pub to_cell-requires : goal.to_cell-requires
 to_cell-requires g c = (

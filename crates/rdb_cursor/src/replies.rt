@@ -13,7 +13,7 @@ use crate::view::View;
 use rdb_base::list::NoMemory;
 use rdb_base::operation::{Op, Reply};
 use rdb_base::steps::Steps;
-use rdb_cells::Cells;
+use rdb_cells::{Cells, LAST_HEAD};
 use rdb_schema::schema::Schema;
 use rdb_store::Store;
 use std::marker::Brand;
@@ -45,7 +45,7 @@ pub fn lookup<C: Cells, M: Marks>(
     };
     match op {
         Op::Get { id, .. } => get(&view, *id),
-        Op::Count { class } => count(&view, store, *class),
+        Op::Count { .. } => Ok(count(&view)),
         _ => look_in_index::<C, M, Brand>(schema, &view, op, Blank::new(1)),
     }
 }
@@ -58,19 +58,22 @@ fn get<C: Cells, M: Marks>(view: &View<C, M>, id: u64) -> Result<Reply, NoMemory
     }
 }
 
-/// Returns how many objects of the class show the reader a row.
-fn count<C: Cells, M: Marks>(
-    view: &View<C, M>,
-    store: &Store,
-    class: u32,
-) -> Result<Reply, NoMemory> {
+/// Returns how many objects of the class show the reader a row. It takes no memory. The cost grows with the number of objects and of
+/// their versions.
+fn count<C: Cells, M: Marks>(view: &View<C, M>) -> Reply {
+    let objects = view.class.objects();
     let mut count = 0;
-    for newest in store.newest(class, view.cells)?.as_slice() {
-        if view.seen_from(*newest).is_some() {
+    let mut next = objects.first_object(view.cells);
+    for _ in 0..LAST_HEAD {
+        let Some(found) = next else {
+            return Reply::Count(count);
+        };
+        if view.seen_from(found.newest).is_some() {
             count += 1;
         }
+        next = objects.next_object(view.cells, found.id);
     }
-    Ok(Reply::Count(count))
+    unreachable!()
 }
 
 /// Returns the reply to an operation that looks in an index.
