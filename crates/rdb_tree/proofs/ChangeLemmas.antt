@@ -11,7 +11,7 @@ use Rattle.rdb_cells.specs.declared.formats.tree.TreeNode.{TreeNode}
 use Rattle.rdb_cells.specs.Images.{Image, IsCell}
 use Rattle.rdb_cells.specs.TreeFormat.{IsTreeNode, tree_node_cell, most_keys}
 use Rattle.rdb_cells.specs.Work.{Work, reading}
-use Rattle.rdb_tree.specs.Changes.{cell_of, with_cell, leaf_work, parent_work, Siblings, IsNodeAt, FitsKeys, FitsPlace, replaced_at, without, raised_keys, raised_children}
+use Rattle.rdb_tree.specs.Changes.{cell_of, with_cell, Siblings, IsNodeAt, FitsKeys, FitsPlace, replaced_at, without, raised_keys, raised_children}
 use Rattle.rdb_tree.specs.Trees.{node_with, keys_in, children_in}
 use Rattle.std.proofs.Permutation.{which}
 use Rattle.rdb_cells.proofs.WorkLemmas.{put_reads}
@@ -77,15 +77,6 @@ raised_fits place key right keys (c ∷ cs) within (inr many) =
 pub fits_place : (place : ℕ) (keys children : List CellRef) → place ≤ length keys → FitsKeys keys children → FitsPlace place children
 fits_place place keys children within (inl none) = inl none
 fits_place place keys children within (inr many) = inr (omega arith)
-
--- a node that keeps a key
-pub some_leaf : (w : Work) (head at : CellRef) (keys : List CellRef) → nat_eq (length keys) 0 ≡ false → with_cell w at (cell_of keys []) ≡ leaf_work w head at keys
-some_leaf w head at [] e = absurd (false≢true (sym e))
-some_leaf w head at (k ∷ ks) e = refl
-
-pub some_parent : (w : Work) (head only at : CellRef) (keys children : List CellRef) → nat_eq (length keys) 0 ≡ false → with_cell w at (cell_of keys children) ≡ parent_work w head only at keys children
-some_parent w head only at [] children e = absurd (false≢true (sym e))
-some_parent w head only at (k ∷ ks) children e = refl
 
 -- what is a cell stays one
 pub still_cell : (w : Work) (at : CellRef) (cell : Cell) (n : ℕ) → IsCell (reading w) n → IsCell (reading (with_cell w at cell)) n

@@ -16,7 +16,8 @@ use Rattle.rdb_tree.specs.Order.{AreKeyed, AreAscending, goes, order_against}
 use Rattle.rdb_tree.specs.Trees.{Node, BTree, Each, woven, versions, IsTreeAt}
 use Rattle.rdb_tree.proofs.GatherLemmas.{IsChild, parts_of, woven_is, drop_there, drop_end, get_is}
 use Rattle.rdb_tree.proofs.OrderLemmas.{less_cuts, up_to_cuts}
-use Rattle.rdb_tree.proofs.SeekLemmas.{IsCut, keep_none, keep_one, all_before, cut_back}
+use Rattle.rdb_tree.proofs.SeekLemmas.{keep_none, keep_one, all_before, cut_back}
+use Rattle.rdb_tree.specs.Ways.{IsCut}
 use Rattle.rdb_tree.proofs.WovenLemmas.{each_front, each_back, part_of, keyed_part, ascending_back, key_within, length_map}
 
 each_so : (P Q : CellRef → Type 0) → ((r : CellRef) → P r → Q r) → (rs : List CellRef) → Each P rs → Each Q rs

@@ -18,7 +18,8 @@ use Rattle.rdb_cells.specs.Keys.{Version, Sayings, version_order, key_order}
 use Rattle.rdb_tree.specs.Lookups.{is_past, is_near, goes_near, first_past, first_met}
 use Rattle.rdb_tree.specs.Order.{IsBefore, AreAscending, AreKeyed, goes}
 use Rattle.rdb_tree.specs.Trees.{Each}
-use Rattle.rdb_tree.proofs.SeekLemmas.{IsCut, sought, beyond}
+use Rattle.rdb_tree.proofs.SeekLemmas.{sought, beyond}
+use Rattle.rdb_tree.specs.Ways.{IsCut}
 use Rattle.rdb_cells.proofs.ListedLemmas.{contains_first, contains_later}
 use Rattle.rdb_cells.proofs.VersionOrder.{version_order_total}
 
@@ -37,7 +38,7 @@ not_gt Less e = refl
 not_gt Equal e = refl
 not_gt Greater e = sym e
 
-is_less : (o : Ordering) → is_lt o ≡ true → o ≡ Less
+pub is_less : (o : Ordering) → is_lt o ≡ true → o ≡ Less
 is_less Less e = refl
 is_less Equal e = absurd (false≢true e)
 is_less Greater e = absurd (false≢true e)

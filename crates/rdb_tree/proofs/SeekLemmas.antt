@@ -7,12 +7,8 @@ use Rattle.std.specs.List.{filter, prefix_len, last_or}
 use Rattle.rdb_pages.specs.declared.cell.CellRef.{CellRef}
 use Rattle.rdb_tree.specs.Lookups.{first_met, first_of, key_beyond}
 use Rattle.rdb_tree.specs.Trees.{Each, woven}
+use Rattle.rdb_tree.specs.Ways.{IsCut}
 use Rattle.rdb_tree.proofs.WovenLemmas.{each_both, each_front, each_back}
-
--- once one isn't on the near side, none behind it is
-abbrev pub IsCut : (CellRef → Bool) → List CellRef → Type 0
-IsCut near [] = Unit {0}
-IsCut near (r ∷ rs) = (near r ≡ false → Each (λ q. near q ≡ false) rs) × IsCut near rs
 
 abbrev pub sought : (CellRef → Bool) → Bool → CellRef → Bool
 sought near true r = not (near r)

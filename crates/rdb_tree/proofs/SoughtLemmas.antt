@@ -18,7 +18,8 @@ use Rattle.rdb_tree.specs.Order.{AreKeyed}
 use Rattle.rdb_tree.specs.Trees.{Node, BTree, Below, Each, Tree, Empty, Rooted, woven, versions, versions_of, cells, cells_of, roots, root_of, levels_of, node_with, padded, keys_in, children_in, is_empty, Holds, Stands, TreeStands, HasKeys, IsShaped, IsBTree, least_keys}
 use Rattle.rdb_tree.proofs.NodeLemmas.{few_keys, keys_back, children_back, roots_fit, looser, own_cell, proper, stands_held, cell_there}
 use Rattle.rdb_tree.proofs.OrderLemmas.{place_cuts, first_beyond}
-use Rattle.rdb_tree.proofs.SeekLemmas.{IsCut, beyond, step, first_assoc, first_none}
+use Rattle.rdb_tree.proofs.SeekLemmas.{beyond, step, first_assoc, first_none}
+use Rattle.rdb_tree.specs.Ways.{IsCut}
 use Rattle.rdb_tree.proofs.WovenLemmas.{key_within, each_at, there, map_there, get_there, part_of, bare, keyed_part, own_cells, length_map}
 
 -- what is left of a search: a tree below, and the best version so far

@@ -120,3 +120,30 @@ module _ (said : Sayings) (image : Image) (near : CellRef → Bool) (whole : Tre
 
     pub way_more : IsOnWay said image near whole before path at count → IsOnWay said image near whole before longer next (count + 1)
     way_more so_far = further so_far.rest so_far.sound so_far.root so_far.goes so_far.levels
+
+-- the tree that the last step of a way leads to, from a node
+abbrev pub IsChildOf : (h : ℕ) → BTree h → ℕ → Tree → Type 0
+IsChildOf zero t place to = Empty ≡ to
+IsChildOf (suc h) t place to = (c : BTree h) × (slice_get t.children place ≡ Some c) × (Rooted h c ≡ to)
+
+-- the node of the last step of a way
+pub record IsLastStep (near : CellRef → Bool) (whole : Tree) (steps : List Step) (step : Step) (to : Tree) : Type 0 where
+  pub h : ℕ
+  pub t : BTree h
+  pub leads : Leads near whole steps (Rooted h t)
+  pub at : step.at ≡ t.at
+  pub place : step.place ≡ prefix_len near t.keys
+  pub child : IsChildOf h t step.place to
+
+-- a way without its last step leads to that step's node
+pub leads_back : (near : CellRef → Bool) (whole : Tree) (steps : List Step) (step : Step) (to : Tree) → Leads near whole (steps ++ step ∷ []) to → IsLastStep near whole steps step to
+leads_back near Empty [] step to leads = absurd leads
+leads_back near (Rooted zero t) [] step to leads = record { h = zero; t = t; leads = refl; at = leads.0; place = leads.1; child = leads.2 }
+leads_back near (Rooted (suc h) t) [] step to leads = record { h = suc h; t = t; leads = refl; at = leads.0; place = leads.1; child = leads.2 }
+leads_back near Empty (s ∷ ss) step to leads = absurd leads
+leads_back near (Rooted zero u) (s ∷ ss) step to leads =
+    let back = leads_back near Empty ss step to leads.2 in
+    record { h = back.h; t = back.t; leads = (leads.0, leads.1, back.leads); at = back.at; place = back.place; child = back.child }
+leads_back near (Rooted (suc h) u) (s ∷ ss) step to leads =
+    let back = leads_back near (Rooted h leads.2.0) ss step to leads.2.2 in
+    record { h = back.h; t = back.t; leads = (leads.0, leads.1, (leads.2.0, leads.2.1, back.leads)); at = back.at; place = back.place; child = back.child }

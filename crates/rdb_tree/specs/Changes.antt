@@ -102,16 +102,6 @@ pub record Siblings (image : Image) (keys children : List CellRef) (place : ℕ)
   pub right_node : IsNodeAt image right right_keys right_children
   pub alike : ((left_children ≡ []) × (right_children ≡ [])) ⊎ ((length left_children ≡ length left_keys + 1) × (length right_children ≡ length right_keys + 1))
 
--- a leaf without a version was the root: it goes, and the head leads to none
-abbrev pub leaf_work : Work → CellRef → CellRef → List CellRef → Work
-leaf_work w head at [] = with_cell (with_cell w at zero_cell) head (index_head_cell empty_index_head)
-leaf_work w head at (key ∷ keys) = with_cell w at (cell_of (key ∷ keys) [])
-
--- a node without a key was the root: it goes, and the head leads to its only child
-abbrev pub parent_work : Work → CellRef → CellRef → CellRef → List CellRef → List CellRef → Work
-parent_work w head only at [] children = with_cell (with_cell w at zero_cell) head (index_head_cell (rooted_head only))
-parent_work w head only at (key ∷ keys) children = with_cell w at (cell_of (key ∷ keys) children)
-
 -- a list without what stands at a place, and with another there
 abbrev pub without : ℕ → List CellRef → List CellRef
 without place refs = take place refs ++ drop (suc place) refs
@@ -137,9 +127,9 @@ module _ {image : Image} {keys children : List CellRef} {place : ℕ} where
       at (cell_of (replaced_at place (get_or s.right_keys 0 no_ref) keys) children)
 
   -- both go into the left one, with the key between
-  abbrev pub merged : Work → CellRef → CellRef → Siblings image keys children place → Work
-  merged w head at s =
-      parent_work (with_cell (with_cell w
+  abbrev pub merged : Work → CellRef → Siblings image keys children place → Work
+  merged w at s =
+      with_cell (with_cell (with_cell w
       s.left (cell_of (s.left_keys ++ s.between ∷ s.right_keys) (s.left_children ++ s.right_children)))
       s.right zero_cell)
-      head s.left at (without place keys) (without (suc place) children)
+      at (cell_of (without place keys) (without (suc place) children))

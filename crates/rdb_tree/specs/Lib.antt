@@ -6,3 +6,5 @@ pub mod Nature
 pub mod TreeLaws
 pub mod KeyTable
 pub mod Ways
+pub mod Growth
+pub mod Losses

@@ -1,9 +1,14 @@
 -- Ways from the root of a tree down.
-use Rattle.std.specs.Prelude.{◌≡◌, ℕ, zero, suc, List, [], ◌∷◌, ◌++◌, slice_get, Some, Bool}
+use Rattle.std.specs.Prelude.{◌≡◌, ℕ, zero, suc, List, [], ◌∷◌, ◌++◌, slice_get, Some, Bool, false}
 use Rattle.std.specs.List.{prefix_len}
 use Rattle.rdb_pages.specs.declared.cell.CellRef.{CellRef}
-use Rattle.rdb_tree.specs.Trees.{Node, BTree, Tree, Empty, Rooted}
+use Rattle.rdb_tree.specs.Trees.{Node, BTree, Each, Tree, Empty, Rooted}
 use Rattle.rdb_tree.specs.declared.path.Step.{Step}
+
+-- once one isn't on the near side, none behind it is
+abbrev pub IsCut : (CellRef → Bool) → List CellRef → Type 0
+IsCut near [] = Unit {0}
+IsCut near (r ∷ rs) = (near r ≡ false → Each (λ q. near q ≡ false) rs) × IsCut near rs
 
 -- The steps lead from a tree down to another, each past the keys on the near side into the child behind them. A step from a
 -- leaf leads to an empty tree.

@@ -1,15 +1,17 @@
 //! A version put into the tree: into a leaf, and a node that has one key too many is split on the way up. It writes nodes, free
 //! cells and the head, in this order on each level: the new right half, then the node. The fourth key goes up.
-ghost use Rattle.std.specs.Prelude.{◌≡◌, ◌≤◌, ◌<◌, ◌+◌, ◌∷◌, [], List, length, take, drop, slice_get, Some};
+ghost use Rattle.std.specs.Prelude.{◌≡◌, ◌≤◌, ◌<◌, ◌+◌, ◌∷◌, [], Bool, List, length, take, drop, slice_get, Some};
 ghost use Rattle.rdb_pages.specs.declared.cell.CellRef.{CellRef as RefValue};
 ghost use Rattle.rdb_cells.specs.Images.{IsCell};
 ghost use Rattle.rdb_cells.specs.TreeFormat.{most_children};
-ghost use Rattle.rdb_cells.specs.Work.{work, reading};
+ghost use Rattle.rdb_cells.specs.Parts.{tree_part};
+ghost use Rattle.rdb_cells.specs.Work.{work, reading, HasLeft};
 ghost use Rattle.rdb_tree.specs.Changes.{IsNodeAt, FitsKeys, CanTake, HasPlaces, IsLowest, PutsInto, IsNewRoot, split_work, raised_keys, raised_children, FitsPlace};
 ghost use Rattle.rdb_tree.specs.Trees.{most_refs};
 ghost use Rattle.rdb_cells.specs.Keys.{HasKey, says};
-ghost use Rattle.rdb_tree.specs.Nature.{IsRootedAt, path_places};
+ghost use Rattle.rdb_tree.specs.Nature.{IsTree, IsRootedAt, path_places};
 ghost use Rattle.rdb_tree.specs.Order.{is_before};
+ghost use Rattle.rdb_tree.specs.Growth.{IsWayDown, IsPutUpTo, IsTreePut};
 ghost use Rattle.rdb_tree.specs.Ways.{GoesOnTo};
 ghost use Rattle.rdb_tree.specs.Trees.{Tree as TreeValue, Empty};
 
@@ -37,12 +39,41 @@ pub(crate) fn put<C: Cells, K: Keys>(
     cells: &mut Overlay<C>,
     keys: &K,
     version: CellRef,
-) {
+)
+    requires standing { (listed : _) × (nodes : _)
+        × IsTree tree.now.head.number (says (K.meaning keys.now) (reading (work C.Cells cells.old))) (reading (work C.Cells cells.old)) listed nodes }
+    requires version { HasKey (K.meaning keys.now) (reading (work C.Cells cells.old)) version }
+    requires free { HasLeft (work C.Cells cells.old) tree_part }
+    requires places { HasPlaces (work C.Cells cells.old) 24 }
+    ensures put { (listed : _) (nodes : _) →
+        (is : IsTree tree.now.head.number (says (K.meaning keys.now) (reading (work C.Cells cells.old))) (reading (work C.Cells cells.old)) listed nodes) →
+        IsTreePut (work C.Cells cells.old) (work C.Cells cells.new)
+        (is_before (says (K.meaning keys.now) (reading (work C.Cells cells.old))) version) version tree.now.head.number is.tree }
+    ensures below { (cells.new.cells ≡ cells.old.cells) × (cells.new.class ≡ cells.old.class) }
+{
     let root = IndexHead::root_in(cells.planned(tree.head), 0);
     let mut path = Path::new(tree.alloc);
-    if root != NONE {
-        descend(cells, keys, version, root, &mut path);
+    descend(&*cells, keys, version, root, &mut path);
+    let Some(raised) = climb(cells, &mut path, version) else {
+        return;
+    };
+    if root == NONE {
+        grow(cells, tree.head, raised.key, &[]);
+        return;
     }
+    grow(cells, tree.head, raised.key, &[root, raised.right]);
+}
+
+/// Puts the version into the leaf at the end of a path, and what is raised into the nodes above it. Returns what is raised
+/// from the root, if anything.
+fn climb<C: Cells>(cells: &mut Overlay<C>, path: &mut Path, version: CellRef) -> Option<Raised>
+    requires way { (near : RefValue → Bool) × (whole : TreeValue) × IsWayDown (reading (work C.Cells cells.old)) near whole path.old.items }
+    requires free { HasLeft (work C.Cells cells.old) tree_part }
+    requires places { HasPlaces (work C.Cells cells.old) 24 }
+    ensures climbs { (near : RefValue → Bool) (whole : TreeValue) → IsWayDown (reading (work C.Cells cells.old)) near whole path.old.items →
+        IsPutUpTo (work C.Cells cells.old) (work C.Cells cells.new) near version whole [] result }
+    ensures below { (cells.new.cells ≡ cells.old.cells) × (cells.new.class ≡ cells.old.class) }
+{
     let mut raised = Raised {
         key: version,
         right: NONE,
@@ -50,14 +81,10 @@ pub(crate) fn put<C: Cells, K: Keys>(
     while let Some(step) = path.pop() {
         match put_into(cells, step, raised) {
             Some(higher) => raised = higher,
-            None => return,
+            None => return None,
         }
     }
-    if root == NONE {
-        grow(cells, tree.head, raised.key, &[]);
-    } else {
-        grow(cells, tree.head, raised.key, &[root, raised.right]);
-    }
+    Some(raised)
 }
 
 /// Appends the steps from the root down to the place in a leaf where the version belongs. It takes no memory.

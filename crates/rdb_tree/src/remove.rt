@@ -1,21 +1,27 @@
 //! A version taken out of the tree: from a leaf, whose last version replaces it where it stands in an inner node; and a node
 //! with too few keys is mended on the way up, by a key of a sibling that can spare one, or else by merging. It writes nodes and
 //! the head.
-ghost use Rattle.std.specs.Prelude.{◌≡◌, ◌≤◌, ◌<◌, ◌+◌, ℕ, List, length, nat_lt};
+ghost use Rattle.std.specs.Prelude.{◌≡◌, ◌≤◌, ◌<◌, ◌+◌, ℕ, suc, List, length, nat_lt, nat_le};
+ghost use Rattle.std.specs.Option.{unwrap_or};
+ghost use Rattle.std.specs.Prelude.{slice_get};
 ghost use Rattle.rdb_pages.specs.declared.cell.CellRef.{CellRef as RefValue};
 ghost use Rattle.rdb_cells.specs.Images.{IsCell};
 ghost use Rattle.rdb_cells.specs.TreeFormat.{most_keys, most_children};
+ghost use Rattle.rdb_cells.specs.Words.{no_ref};
 ghost use Rattle.rdb_cells.specs.Work.{work, reading};
-ghost use Rattle.rdb_tree.specs.Changes.{IsNodeAt, HasPlaces, Siblings, leaf_work, parent_work, shared_left, shared_right, merged, with_cell, cell_of};
+ghost use Rattle.rdb_tree.specs.Changes.{IsNodeAt, HasPlaces, Siblings, shared_left, shared_right, merged, with_cell, cell_of};
+ghost use Rattle.rdb_tree.specs.Losses.{IsShort, HasMended};
 ghost use Rattle.rdb_tree.specs.Trees.{least_keys, node_with};
+ghost use Rattle.rdb_tree.specs.Trees.{BTree as TreeOf};
 
+use crate::lookup::child_at;
 use crate::node::{
-    LEAST_KEYS, children_of, joined, keys_of, node_at, node_of, with_one, with_other, without_one,
+    LEAST_KEYS, MAX_LEVELS, children_of, joined, keys_of, node_at, node_of, with_one, with_other,
+    without_one,
 };
-use crate::path::{Path, Step};
 use crate::search::count_before;
 use crate::tree::Tree;
-use rdb_cells::{Cells, IndexHead, Keys, Overlay, TreeNode};
+use rdb_cells::{Cells, IndexHead, Keys, NONE, Overlay, TreeNode};
 use rdb_pages::{Cell, CellRef};
 
 /// Takes the version, which is listed, out of the tree.
@@ -24,144 +30,124 @@ pub(crate) fn remove<C: Cells, K: Keys>(
     cells: &mut Overlay<C>,
     keys: &K,
     version: CellRef,
-) {
-    let root = IndexHead::root_in(cells.planned(tree.head), 0);
-    let mut path = Path::new(tree.alloc);
-    let found = find(cells, keys, version, root, &mut path);
-    let mut short = take_out(cells, tree.head, found, &mut path);
-    while let Some(step) = path.pop() {
-        if keys_of(&node_at(&*cells, short)).len() >= LEAST_KEYS {
-            return;
-        }
-        mend(cells, tree.head, step);
-        short = step.at;
-    }
-}
-
-/// Returns the node and the place of the version, and appends the steps that lead to the node.
-fn find<C: Cells, K: Keys>(
-    cells: &Overlay<C>,
-    keys: &K,
-    version: CellRef,
-    root: CellRef,
-    path: &mut Path,
-) -> Step {
-    let mut at = root;
-    loop {
-        let node = node_at(cells, at);
-        let place = count_before(cells, keys, keys_of(&node), version);
-        let step = Step { at, place };
-        if keys_of(&node).get(place).copied() == Some(version) {
-            return step;
-        }
-        path.push_reserved(step);
-        at = children_of(&node)[place];
-    }
-}
-
-/// Takes the version at a place out of a leaf, or replaces it by the last version of the leaf before it. Returns the leaf, and
-/// appends the steps that lead to it.
-fn take_out<C: Cells>(
-    cells: &mut Overlay<C>,
-    head: CellRef,
-    found: Step,
-    path: &mut Path,
-) -> CellRef {
-    let node = node_at(&*cells, found.at);
-    if node.leaf {
-        let rest = without_one(keys_of(&node), found.place);
-        write_leaf(cells, head, found.at, rest.as_slice());
-        return found.at;
-    }
-    path.push_reserved(found);
-    let leaf = last_leaf(cells, children_of(&node)[found.place], path);
-    let below = node_at(&*cells, leaf);
-    let (rest, last) = keys_of(&below).split_at(keys_of(&below).len() - 1);
-    let versions = with_other(keys_of(&node), found.place, last[0]);
-    let replaced = node_of(versions.as_slice(), children_of(&node));
-    cells.put(found.at, replaced.to_cell());
-    write_leaf(cells, head, leaf, rest);
-    leaf
-}
-
-/// Returns the last leaf of a tree, and appends the steps that lead to it.
-fn last_leaf<C: Cells>(cells: &Overlay<C>, root: CellRef, path: &mut Path) -> CellRef {
-    let mut at = root;
-    loop {
-        let node = node_at(cells, at);
-        let children = children_of(&node);
-        match children.last() {
-            Some(child) => {
-                let place = children.len() - 1;
-                path.push_reserved(Step { at, place });
-                at = *child;
-            }
-            None => return at,
-        }
-    }
-}
-
-/// Writes a leaf with these versions. One that has none was the root, and goes.
-fn write_leaf<C: Cells>(cells: &mut Overlay<C>, head: CellRef, at: CellRef, versions: &[CellRef])
-    requires at { IsCell (reading (work C.Cells cells.old)) at.number }
-    requires head { IsCell (reading (work C.Cells cells.old)) head.number }
-    requires versions { length versions.now ≤ most_keys }
-    requires places { HasPlaces (work C.Cells cells.old) 2 }
-    ensures work { work C.Cells cells.new ≡ leaf_work (work C.Cells cells.old) head at versions.now }
-    ensures below { (cells.new.cells ≡ cells.old.cells) × (cells.new.class ≡ cells.old.class) }
-{
-    if versions.is_empty() {
-        cells.put(at, Cell::ZERO);
-        cells.put(head, IndexHead::empty().to_cell());
-        return;
-    }
-    let leaf = node_of(versions, &[]);
-    cells.put(at, leaf.to_cell());
-}
-
-/// Writes an inner node with these keys and children. One that has no key was the root: it goes, and its only child is the
-/// root now.
-fn write_parent<C: Cells>(
-    cells: &mut Overlay<C>,
-    head: CellRef,
-    only: CellRef,
-    at: CellRef,
-    versions: &[CellRef],
-    children: &[CellRef],
 )
-    requires at { IsCell (reading (work C.Cells cells.old)) at.number }
-    requires head { IsCell (reading (work C.Cells cells.old)) head.number }
-    requires versions { length versions.now ≤ most_keys }
-    requires children { length children.now ≤ most_children }
-    requires places { HasPlaces (work C.Cells cells.old) 2 }
-    ensures work { work C.Cells cells.new ≡ parent_work (work C.Cells cells.old) head only at versions.now children.now }
-    ensures below { (cells.new.cells ≡ cells.old.cells) × (cells.new.class ≡ cells.old.class) }
 {
-    if versions.is_empty() {
-        cells.put(at, Cell::ZERO);
-        cells.put(head, IndexHead::rooted(only).to_cell());
-        return;
-    }
-    let node = node_of(versions, children);
-    cells.put(at, node.to_cell());
+    let root = IndexHead::root_in(cells.planned(tree.head), 0);
+    take_out(cells, keys, root, version, MAX_LEVELS);
+    lower_root(cells, tree.head, root);
 }
 
-/// Mends the node at the end of a step, which has a key too few: its left sibling gives a key, or else its right one, or else
-/// the two merge, with the left one where there is one.
-fn mend<C: Cells>(cells: &mut Overlay<C>, head: CellRef, step: Step) {
-    let parent = node_at(&*cells, step.at);
+/// Takes the version out of a tree with fewer levels above its leaves than this: out of a leaf, or the last version before it
+/// takes its place. The root keeps its cell, and may be left with a key less.
+fn take_out<C: Cells, K: Keys>(
+    cells: &mut Overlay<C>,
+    keys: &K,
+    at: CellRef,
+    version: CellRef,
+    levels: u32,
+)
+{
+    let node = node_at(&*cells, at);
+    let place = count_before(&*cells, keys, keys_of(&node), version);
+    if node.leaf {
+        let rest = without_one(keys_of(&node), place);
+        put_node(cells, at, rest.as_slice(), &[]);
+        return;
+    }
+    let child = child_at(&node, place);
+    if key_at(&node, place) != version {
+        take_out(cells, keys, child, version, levels - 1);
+        mend(cells, at, place);
+        return;
+    }
+    let last = take_last(cells, child, levels - 1);
+    let versions = with_other(keys_of(&node), place, last);
+    put_node(cells, at, versions.as_slice(), children_of(&node));
+    mend(cells, at, place);
+}
+
+/// Returns the key at a place of a node, and none past the last.
+fn key_at(node: &TreeNode, place: usize) -> CellRef
+    requires { node.now.count ≤ most_keys }
+    ensures { result ≡ unwrap_or (slice_get (keys_in node.now) place) no_ref }
+{
+    keys_of(node).get(place).copied().unwrap_or(NONE)
+}
+
+/// Takes the last version out of a tree with fewer levels above its leaves than this, and returns it. The root keeps its cell,
+/// and may be left with a key less.
+fn take_last<C: Cells>(cells: &mut Overlay<C>, at: CellRef, levels: u32) -> CellRef
+{
+    let node = node_at(&*cells, at);
+    let versions = keys_of(&node);
+    if node.leaf {
+        let (rest, last) = versions.split_at(versions.len() - 1);
+        put_node(cells, at, rest, &[]);
+        return last[0];
+    }
+    let place = versions.len();
+    let last = take_last(cells, child_at(&node, place), levels - 1);
+    mend(cells, at, place);
+    last
+}
+
+/// Takes a root away that has no key: the head leads to its only child then, or to none below a leaf.
+fn lower_root<C: Cells>(cells: &mut Overlay<C>, head: CellRef, root: CellRef)
+{
+    let node = node_at(&*cells, root);
+    if node.count > 0 {
+        return;
+    }
+    let top = child_at(&node, 0);
+    put_cell(cells, root, Cell::ZERO);
+    put_cell(cells, head, IndexHead::rooted(top).to_cell());
+}
+
+/// Mends a node whose child at a place may be a key too few: the child's left sibling gives a key, or else its right one, or
+/// else the two merge, with the left one where there is one.
+fn mend<C: Cells>(cells: &mut Overlay<C>, at: CellRef, place: usize)
+    requires short { (h : ℕ) × (t : TreeOf (suc h)) × IsShort (reading (work C.Cells cells.old)) at place h t }
+    requires places { HasPlaces (work C.Cells cells.old) 3 }
+    ensures mended { (h : ℕ) (t : TreeOf (suc h)) → IsShort (reading (work C.Cells cells.old)) at place h t →
+        HasMended (work C.Cells cells.old) (work C.Cells cells.new) h t }
+    ensures below { (cells.new.cells ≡ cells.old.cells) × (cells.new.class ≡ cells.old.class) }
+{
+    let parent = node_at(&*cells, at);
     let versions = keys_of(&parent);
     let children = children_of(&parent);
-    let place = step.place;
-    if place > 0 && can_spare(cells, children[place - 1]) {
-        share_from_left(cells, step.at, versions, children, place - 1);
-    } else if place < versions.len() && can_spare(cells, children[place + 1]) {
-        share_from_right(cells, step.at, versions, children, place);
-    } else if place > 0 {
-        merge(cells, head, step.at, versions, children, place - 1);
-    } else {
-        merge(cells, head, step.at, versions, children, place);
+    if has_enough(&*cells, children[place]) {
+        return;
     }
+    if place == 0 {
+        if can_spare(&*cells, children[place + 1]) {
+            share_from_right(cells, at, versions, children, place);
+            return;
+        }
+        merge(cells, at, versions, children, place);
+        return;
+    }
+    if can_spare(&*cells, children[place - 1]) {
+        share_from_left(cells, at, versions, children, place - 1);
+        return;
+    }
+    if place == versions.len() {
+        merge(cells, at, versions, children, place - 1);
+        return;
+    }
+    if can_spare(&*cells, children[place + 1]) {
+        share_from_right(cells, at, versions, children, place);
+        return;
+    }
+    merge(cells, at, versions, children, place - 1);
+}
+
+/// Returns whether a node has as many keys as it needs below the root.
+fn has_enough<C: Cells>(cells: &Overlay<C>, at: CellRef) -> bool
+    requires { (keys : List RefValue) × (children : List RefValue) × IsNodeAt (reading (work C.Cells cells.now)) at keys children }
+    ensures { (keys children : List RefValue) → IsNodeAt (reading (work C.Cells cells.now)) at keys children →
+        result ≡ nat_le least_keys (length keys) }
+{
+    keys_of(&node_at(cells, at)).len() >= LEAST_KEYS
 }
 
 /// Returns whether a node has more keys than it needs.
@@ -240,24 +226,22 @@ fn share_from_right<C: Cells>(
     put_node(cells, at, between.as_slice(), children);
 }
 
-/// Merges the children before and behind a key with that key, into the left one's cell. A root that has no other key goes.
+/// Merges the children before and behind a key with that key, into the left one's cell.
 fn merge<C: Cells>(
     cells: &mut Overlay<C>,
-    head: CellRef,
     at: CellRef,
     versions: &[CellRef],
     children: &[CellRef],
     place: usize,
 )
     requires at { IsCell (reading (work C.Cells cells.old)) at.number }
-    requires head { IsCell (reading (work C.Cells cells.old)) head.number }
     requires versions { length versions.now ≤ most_keys }
     requires children { length children.now ≤ most_children }
     requires siblings { (s : Siblings (reading (work C.Cells cells.old)) versions.now children.now place)
         × (length s.left_keys + length s.right_keys < most_keys) }
-    requires places { HasPlaces (work C.Cells cells.old) 4 }
+    requires places { HasPlaces (work C.Cells cells.old) 3 }
     ensures work { (s : Siblings (reading (work C.Cells cells.old)) versions.now children.now place) →
-        work C.Cells cells.new ≡ merged (work C.Cells cells.old) head at s }
+        work C.Cells cells.new ≡ merged (work C.Cells cells.old) at s }
     ensures below { (cells.new.cells ≡ cells.old.cells) × (cells.new.class ≡ cells.old.class) }
 {
     let pair = pair_at(&*cells, versions, children, place);
@@ -267,14 +251,7 @@ fn merge<C: Cells>(
     let rest_children = without_one(children, place + 1);
     put_node(cells, pair.left_at, own.as_slice(), own_children.as_slice());
     put_cell(cells, pair.right_at, Cell::ZERO);
-    write_parent(
-        cells,
-        head,
-        pair.left_at,
-        at,
-        rest.as_slice(),
-        rest_children.as_slice(),
-    );
+    put_node(cells, at, rest.as_slice(), rest_children.as_slice());
 }
 
 /// Writes a node.

@@ -4,7 +4,7 @@ use Rattle.rdb_pages.specs.declared.cell.CellRef.{CellRef}
 use Rattle.rdb_cells.specs.Images.{IsCell}
 use Rattle.rdb_cells.specs.Work.{Work, work, reading}
 use Rattle.rdb_cells.specs.Words.{no_ref}
-use Rattle.rdb_tree.specs.Changes.{Siblings, with_cell, cell_of, parent_work, replaced_at, without}
+use Rattle.rdb_tree.specs.Changes.{Siblings, with_cell, cell_of, replaced_at, without}
 use Rattle.rdb_tree.specs.Trees.{node_with, keys_in, children_in}
 use Rattle.rdb_tree.proofs.ChangeLemmas.{key_below, child_below, between_is, left_is, right_is, node_cell, node_read, node_few, first_dropped, length_replaced, length_without, left_moved, right_moved, all_children, left_keys_read, left_children_read, right_keys_read, right_children_read}
 use Rattle.rdb_tree.proofs.remove.merge.Goals as goal
@@ -36,15 +36,15 @@ put_node-requires-clause-children g c =
     let few = all_children (reading (work g.C.Cells c.args.cells.now)) c.args.versions.now c.args.children.now c.args.place c.requires.siblings.0 c.requires.siblings.1 in
     omega arith
 
-pub write_parent-requires-clause-versions : goal.write_parent-requires-clause-versions
-write_parent-requires-clause-versions g c =
+pub put_node-requires-2-clause-versions : goal.put_node-requires-2-clause-versions
+put_node-requires-2-clause-versions g c =
     let same = ap (length {A = CellRef}) (c.as_slice-3.ensures ∙ c.without_one-rest.ensures) in
     let many = length_without c.args.place c.args.versions.now (key_below (reading (work g.C.Cells c.args.cells.now)) c.args.versions.now c.args.children.now c.args.place c.requires.siblings.0) in
     let few = c.requires.versions in
     omega arith
 
-pub write_parent-requires-clause-children : goal.write_parent-requires-clause-children
-write_parent-requires-clause-children g c =
+pub put_node-requires-2-clause-children : goal.put_node-requires-2-clause-children
+put_node-requires-2-clause-children g c =
     let same = ap (length {A = CellRef}) (c.as_slice-4.ensures ∙ c.without_one-rest_children.ensures) in
     let many = length_without (c.args.place + 1) c.args.children.now (child_below (reading (work g.C.Cells c.args.cells.now)) c.args.versions.now c.args.children.now c.args.place c.requires.siblings.0) in
     let few = c.requires.children in
@@ -62,7 +62,7 @@ returns-clause-work g c = λ s.
     let place : c.args.place + 1 ≡ suc c.args.place = omega arith in
     let rest : c.as_slice-3.result.now ≡ without c.args.place c.args.versions.now = c.as_slice-3.ensures ∙ c.without_one-rest.ensures in
     let rest_children : c.as_slice-4.result.now ≡ without (suc c.args.place) c.args.children.now = c.as_slice-4.ensures ∙ c.without_one-rest_children.ensures ∙ ap (λ (n : ℕ). without n c.args.children.now) place in
-    c.write_parent.ensures.work
-    ∙ ap (λ (v : Work). parent_work v c.args.head c.pair_at-pair.result.left_at c.args.at c.as_slice-3.result.now c.as_slice-4.result.now)
+    c.put_node-2.ensures.work
+    ∙ ap (λ (v : Work). with_cell v c.args.at (cell_of c.as_slice-3.result.now c.as_slice-4.result.now))
     (c.put_cell.ensures.work ∙ ap (λ (v : Work). with_cell v c.pair_at-pair.result.right_at zero_cell) c.put_node.ensures.work)
-    ∙ (λ i. parent_work (with_cell (with_cell (work g.C.Cells c.args.cells.now) (ends.1 i) (cell_of (own i) (own_children i))) (ends.2 i) zero_cell) c.args.head (ends.1 i) c.args.at (rest i) (rest_children i))
+    ∙ (λ i. with_cell (with_cell (with_cell (work g.C.Cells c.args.cells.now) (ends.1 i) (cell_of (own i) (own_children i))) (ends.2 i) zero_cell) c.args.at (cell_of (rest i) (rest_children i)))
