@@ -26,6 +26,8 @@ mod tend;
 #[cfg(test)]
 mod tests;
 mod watch;
+#[cfg(test)]
+mod watched_tests;
 mod world;
 
 pub use answer::{Answer, Outcome, Standing, Tended};
