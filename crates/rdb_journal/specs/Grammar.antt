@@ -1,6 +1,6 @@
 -- The grammar of a report, line by line: what a line may say behind those above it. A report is lines of which each may say what it says,
 -- the last of them the totals.
-use Rattle.std.specs.Prelude.{◌≡◌, ◌≢◌, ⊤, ⊥, ℕ, Bool, ◌+◌, ◌==◌, nat_eq, List, [], ◌∷◌, ◌++◌, codes, length, if◌then◌else◌, Option, Some, None}
+use Rattle.std.specs.Prelude.{◌≡◌, ◌≢◌, ⊤, ℕ, Bool, ◌+◌, ◌==◌, nat_eq, List, [], ◌∷◌, ◌++◌, codes, length, if◌then◌else◌, Option, Some, None}
 use Rattle.std.specs.List.{onto_first, starts_with}
 use Rattle.std.specs.Option.{option_to_list, option_map, option_and_then}
 use Rattle.rdb_schema.specs.declared.schema.Schema.{Schema}

@@ -1,6 +1,6 @@
 -- Which entries, ends and notes a report can print: names that stand for what they name, values that fit the schema, and numbers in range.
-use Rattle.std.specs.Prelude.{◌≡◌, ⊤, ℕ, ◌<◌, ◌^◌, List, [], All, position, slice_get, Option, Some, None, IsTrue}
-use Rattle.std.specs.Option.{option_map_or}
+use Rattle.std.specs.Prelude.{◌≡◌, ⊤, ℕ, ◌<◌, ◌^◌, nat_lt, if◌then◌else◌, List, All, position, slice_get, Option, Some, None, IsTrue}
+use Rattle.std.specs.Option.{option_map_or, option_and_then}
 use Rattle.std.specs.Str.{IsUtf8, bytes_eq}
 use Rattle.rdb_schema.specs.declared.schema.Schema.{Schema}
 use Rattle.rdb_schema.specs.Proper.{HasEdges, IsProperRow}
@@ -37,15 +37,20 @@ IsNarrow number = number < 2 ^ 32
 
 -- ---- names
 
+-- a place of a list, where it has 32 bits
+abbrev pub narrow : Option ℕ → Option ℕ
+narrow found = option_and_then (λ place. if nat_lt place (2 ^ 32) then Some place else None) found
+
 -- the class, and the index and the event of a class, that a name stands for: the first of that name
-abbrev pub class_named : Schema → List ℕ → Option ℕ
-class_named schema name = position (λ c. bytes_eq c.name name) schema.classes
+unfoldable pub class_named : Schema → List ℕ → Option ℕ
+class_named schema name = narrow (position (λ c. bytes_eq c.name name) schema.classes)
 
 abbrev pub index_named : Schema → ℕ → List ℕ → Option ℕ
-index_named schema class name = option_map_or (λ c. position (λ i. bytes_eq i.name name) c.indexes) (slice_get schema.classes class) None
+index_named schema class name =
+    option_map_or (λ c. narrow (position (λ i. bytes_eq i.name name) c.indexes)) (slice_get schema.classes class) None
 
 abbrev pub event_named : Schema → ℕ → List ℕ → Option ℕ
-event_named schema class name = option_map_or (λ c. position (λ e. bytes_eq e.name name) c.events) (slice_get schema.classes class) None
+event_named schema class name = option_map_or (λ c. narrow (position (λ e. bytes_eq e.name name) c.events)) (slice_get schema.classes class) None
 
 -- the class is the one that its name stands for
 abbrev pub HasClassName : Schema → ℕ → Type 0
@@ -77,22 +82,34 @@ pub record IsPrintableKey (schema : Schema) (class index : ℕ) (key : List Valu
 
 -- ---- operations and replies
 
-abbrev pub IsPrintablePlace : Schema → ℕ → ℕ → Place → Type 0
-IsPrintablePlace schema class index place.Start = ⊤
-IsPrintablePlace schema class index place.End = ⊤
-IsPrintablePlace schema class index (place.At key id) = IsPrintableKey schema class index key × IsWide id
+-- a place's key is text and boxes that a program holds; that it is one of the index, and an operation's values those of the class, is asked by
+-- whether the operation fits
+abbrev pub IsPrintablePlace : Place → Type 0
+IsPrintablePlace place.Start = ⊤
+IsPrintablePlace place.End = ⊤
+IsPrintablePlace (place.At key id) = IsProperRow key × IsWide id
 
 -- an operation's names and values; the id that a `new` made is its reply's
 abbrev pub IsPrintableOperation : Schema → Op → Type 0
-IsPrintableOperation schema (op.New class row id) = HasClassName schema class × IsPrintableRow schema class row
+IsPrintableOperation schema (op.New class row id) = HasClassName schema class × IsProperRow row
 IsPrintableOperation schema (op.Get class id) = HasClassName schema class × IsWide id
-IsPrintableOperation schema (op.Put class id row) = HasClassName schema class × IsWide id × IsPrintableRow schema class row
+IsPrintableOperation schema (op.Put class id row) = HasClassName schema class × IsWide id × IsProperRow row
 IsPrintableOperation schema (op.Del class id) = HasClassName schema class × IsWide id
-IsPrintableOperation schema (op.Find class index key) = HasIndexPath schema class index × IsPrintableKey schema class index key
-IsPrintableOperation schema (op.Seek class index from up) = HasIndexPath schema class index × IsPrintablePlace schema class index from
+IsPrintableOperation schema (op.Find class index key) = HasIndexPath schema class index × IsProperRow key
+IsPrintableOperation schema (op.Seek class index from up) = HasIndexPath schema class index × IsPrintablePlace from
 IsPrintableOperation schema (op.Area class index rect inside) = HasIndexPath schema class index × HasEdges rect
 IsPrintableOperation schema (op.Prefix class index text way) = HasIndexPath schema class index × IsUtf8 text
 IsPrintableOperation schema (op.Count class) = HasClassName schema class
+
+-- the operation with the id that its reply says was made
+abbrev pub with_made : Op → Reply → Op
+with_made (op.New class row id) (reply.Made made) = op.New class row made
+with_made operation _ = operation
+
+-- the operation without the id that it made
+abbrev pub without_made : Op → Op
+without_made (op.New class row id) = op.New class row 0
+without_made operation = operation
 
 -- an index of the class and an object that has the key
 abbrev pub IsPrintableDuplicate : Schema → ℕ → ℕ → ℕ → Type 0

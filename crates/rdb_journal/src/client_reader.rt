@@ -1,8 +1,9 @@
 //! Reads the line of a client, and those of its watches and polls. It touches nothing but the line and the schema that it is lent.
 
-ghost use Rattle.std.specs.Prelude.{◌≡◌, ◌×◌, ℕ, IfSome, Some};
+ghost use Rattle.std.specs.Prelude.{◌≡◌, ℕ, IfSome, Some};
 ghost use Rattle.rdb_journal.specs.declared.endings.End.{End as Ending};
 ghost use Rattle.rdb_journal.specs.declared.endings.Note.{Note as Told};
+ghost use Rattle.rdb_schema.specs.Schemas.{IsSchema};
 ghost use Rattle.rdb_journal.specs.Endings.{client_line, note_line};
 ghost use Rattle.rdb_journal.specs.Printed.{IsNarrow, IsPrintableEnd, IsPrintableNote};
 
@@ -94,7 +95,7 @@ fn poll(schema: &Schema, text: &[u8]) -> Option<Note> {
 /// and of the class's events.
 pub fn note(schema: &Schema, line: &[u8]) -> Option<Note>
     ensures found { IfSome result (λ n. (line.now ≡ note_line schema.now n) × IsPrintableNote schema.now n) }
-    ensures exact { (n : Told) → line.now ≡ note_line schema.now n → IsPrintableNote schema.now n → result ≡ Some n }
+    ensures exact { (n : Told) → IsSchema schema.now → line.now ≡ note_line schema.now n → IsPrintableNote schema.now n → result ≡ Some n }
 {
     match watch(schema, line) {
         Some(note) => Some(note),

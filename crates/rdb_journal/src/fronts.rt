@@ -3,12 +3,16 @@
 
 ghost use Rattle.std.specs.Prelude.{◌≡◌, ◌≢◌, ◌<◌, ◌≤◌, ◌==◌, ◌^◌, ◌++◌, ◌∷◌, ℕ, List, length, decimal, not, position, slice_get, All, IfSome, IsSomeAnd};
 ghost use Rattle.std.specs.List.{position_or_len};
-ghost use Rattle.std.specs.Option.{option_map, option_copied};
+ghost use Rattle.std.specs.Option.{option_copied};
 ghost use Rattle.std.specs.Char.{is_ascii_digit};
 ghost use Rattle.rdb_literals.specs.Spelling.{BeginsNoDigit};
-ghost use Rattle.rdb_journal.specs.Printed.{IsWide, IsNarrow, class_named, index_named, event_named};
+ghost use Rattle.std.specs.Str.{bytes_eq};
+ghost use Rattle.rdb_schema.specs.Schemas.{IsSchema};
+ghost use Rattle.rdb_journal.specs.Names.{class_name, index_name, event_name, index_path, event_path};
+ghost use Rattle.rdb_journal.specs.Printed.{IsWide, IsNarrow, narrow, class_named, index_named, event_named, HasClassName, HasIndexName, HasEventName, HasIndexPath, HasEventPath};
 
 use rdb_literals::decimal::printed;
+use rdb_literals::front::after;
 use rdb_schema::schema::{Class, Event, IndexDecl, Schema};
 
 /// The place of the first byte that is no digit.
@@ -70,27 +74,33 @@ pub fn until(text: &[u8], sign: u8) -> Option<(&[u8], &[u8])>
 }
 
 fn place_of_class(classes: &[Class], name: &[u8]) -> Option<usize>
-    ensures { result ≡ position (λ c. c.name == name.now) classes.now }
+    ensures { result ≡ position (λ c. bytes_eq c.name name.now) classes.now }
 {
     classes
         .iter()
         .position(|class| class.name.as_str().as_bytes() == name)
 }
 
-fn place_of_index(indexes: &[IndexDecl], name: &[u8]) -> Option<usize> {
+fn place_of_index(indexes: &[IndexDecl], name: &[u8]) -> Option<usize>
+    ensures { result ≡ position (λ i. bytes_eq i.name name.now) indexes.now }
+{
     indexes
         .iter()
         .position(|index| index.name.as_str().as_bytes() == name)
 }
 
-fn place_of_event(events: &[Event], name: &[u8]) -> Option<usize> {
+fn place_of_event(events: &[Event], name: &[u8]) -> Option<usize>
+    ensures { result ≡ position (λ e. bytes_eq e.name name.now) events.now }
+{
     events
         .iter()
         .position(|event| event.name.as_str().as_bytes() == name)
 }
 
 /// A place as a number of 32 bits.
-fn narrow(place: Option<usize>) -> Option<u32> {
+fn narrow(place: Option<usize>) -> Option<u32>
+    ensures { result ≡ narrow place }
+{
     match place {
         Some(place) if place <= u32::MAX as usize => Some(place as u32),
         _ => None,
@@ -98,51 +108,99 @@ fn narrow(place: Option<usize>) -> Option<u32> {
 }
 
 /// The class that a name stands for. The cost grows with the number of classes.
-pub fn class_named(schema: &Schema, name: &[u8]) -> Option<u32> {
+#[tactic(auto, unfolding(crate::specs::Printed::class_named))]
+pub fn class_named(schema: &Schema, name: &[u8]) -> Option<u32>
+    ensures { result ≡ class_named schema.now name.now }
+{
     narrow(place_of_class(schema.classes.as_slice(), name))
 }
 
+/// The class of this number.
+fn class_of(schema: &Schema, class: u32) -> Option<&Class>
+    ensures { option_copied result ≡ slice_get schema.now.classes class }
+{
+    schema.classes.as_slice().get(class as usize)
+}
+
 /// The index of a class that a name stands for. The cost grows with the number of the class's indexes.
-pub fn index_named(schema: &Schema, class: u32, name: &[u8]) -> Option<u32> {
-    let declared = schema.classes.as_slice().get(class as usize)?;
-    narrow(place_of_index(declared.indexes.as_slice(), name))
+pub fn index_named(schema: &Schema, class: u32, name: &[u8]) -> Option<u32>
+    ensures { result ≡ index_named schema.now class name.now }
+{
+    match class_of(schema, class) {
+        Some(declared) => narrow(place_of_index(declared.indexes.as_slice(), name)),
+        None => None,
+    }
 }
 
 /// The event of a class that a name stands for. The cost grows with the number of the class's events.
-pub fn event_named(schema: &Schema, class: u32, name: &[u8]) -> Option<u32> {
-    let declared = schema.classes.as_slice().get(class as usize)?;
-    narrow(place_of_event(declared.events.as_slice(), name))
+pub fn event_named(schema: &Schema, class: u32, name: &[u8]) -> Option<u32>
+    ensures { result ≡ event_named schema.now class name.now }
+{
+    match class_of(schema, class) {
+        Some(declared) => narrow(place_of_event(declared.events.as_slice(), name)),
+        None => None,
+    }
 }
 
 /// The class whose name stands in front, before a space, and what stands from the space on.
-pub fn class_at<'a>(schema: &Schema, text: &'a [u8]) -> Option<(u32, &'a [u8])> {
+pub fn class_at<'a>(schema: &Schema, text: &'a [u8]) -> Option<(u32, &'a [u8])>
+    ensures found { IfSome result (λ r. (text.now ≡ class_name schema.now r.0 ++ r.1.now) × HasClassName schema.now r.0) }
+    ensures exact { (class : ℕ) (rest : List ℕ) → IsSchema schema.now → HasClassName schema.now class
+        → text.now ≡ class_name schema.now class ++ 32 ∷ rest → IsSomeAnd result (λ r. (r.0 ≡ class) × (r.1.now ≡ 32 ∷ rest)) }
+{
     let (name, rest) = until(text, b' ')?;
     Some((class_named(schema, name)?, rest))
 }
 
 /// The index of a class whose name stands in front, before a space, and what stands from the space on.
-pub fn index_at<'a>(schema: &Schema, class: u32, text: &'a [u8]) -> Option<(u32, &'a [u8])> {
+pub fn index_at<'a>(schema: &Schema, class: u32, text: &'a [u8]) -> Option<(u32, &'a [u8])>
+    ensures found { IfSome result (λ r. (text.now ≡ index_name schema.now class r.0 ++ r.1.now) × HasIndexName schema.now class r.0) }
+    ensures exact { (index : ℕ) (rest : List ℕ) → IsSchema schema.now → HasIndexName schema.now class index
+        → text.now ≡ index_name schema.now class index ++ 32 ∷ rest → IsSomeAnd result (λ r. (r.0 ≡ index) × (r.1.now ≡ 32 ∷ rest)) }
+{
     let (name, rest) = until(text, b' ')?;
     Some((index_named(schema, class, name)?, rest))
 }
 
+/// The event of a class whose name stands in front, before a space, and what stands from the space on.
+fn event_at<'a>(schema: &Schema, class: u32, text: &'a [u8]) -> Option<(u32, &'a [u8])>
+    ensures found { IfSome result (λ r. (text.now ≡ event_name schema.now class r.0 ++ r.1.now) × HasEventName schema.now class r.0) }
+    ensures exact { (event : ℕ) (rest : List ℕ) → IsSchema schema.now → HasEventName schema.now class event
+        → text.now ≡ event_name schema.now class event ++ 32 ∷ rest → IsSomeAnd result (λ r. (r.0 ≡ event) × (r.1.now ≡ 32 ∷ rest)) }
+{
+    let (name, rest) = until(text, b' ')?;
+    Some((event_named(schema, class, name)?, rest))
+}
+
 /// The class whose name stands in front, before a point, and what stands behind the point.
-fn owner_at<'a>(schema: &Schema, text: &'a [u8]) -> Option<(u32, &'a [u8])> {
+fn owner_at<'a>(schema: &Schema, text: &'a [u8]) -> Option<(u32, &'a [u8])>
+    ensures found { IfSome result (λ r. (text.now ≡ class_name schema.now r.0 ++ 46 ∷ r.1.now) × HasClassName schema.now r.0) }
+    ensures exact { (class : ℕ) (rest : List ℕ) → IsSchema schema.now → HasClassName schema.now class
+        → text.now ≡ class_name schema.now class ++ 46 ∷ rest → IsSomeAnd result (λ r. (r.0 ≡ class) × (r.1.now ≡ rest)) }
+{
     let (name, rest) = until(text, b'.')?;
-    let (_, behind) = rest.split_first()?;
+    let behind = after(rest, b".")?;
     Some((class_named(schema, name)?, behind))
 }
 
 /// The class and the index that `CLASS.INDEX` in front stands for, before a space, and what stands from the space on.
-pub fn index_path_at<'a>(schema: &Schema, text: &'a [u8]) -> Option<(u32, u32, &'a [u8])> {
+pub fn index_path_at<'a>(schema: &Schema, text: &'a [u8]) -> Option<(u32, u32, &'a [u8])>
+    ensures found { IfSome result (λ r. (text.now ≡ index_path schema.now r.0 r.1 ++ r.2.now) × HasIndexPath schema.now r.0 r.1) }
+    ensures exact { (class index : ℕ) (rest : List ℕ) → IsSchema schema.now → HasIndexPath schema.now class index
+        → text.now ≡ index_path schema.now class index ++ 32 ∷ rest → IsSomeAnd result (λ r. (r.0 ≡ class) × (r.1 ≡ index) × (r.2.now ≡ 32 ∷ rest)) }
+{
     let (class, behind) = owner_at(schema, text)?;
     let (index, rest) = index_at(schema, class, behind)?;
     Some((class, index, rest))
 }
 
 /// The class and the event that `CLASS.EVENT` in front stands for, before a space, and what stands from the space on.
-pub fn event_path_at<'a>(schema: &Schema, text: &'a [u8]) -> Option<(u32, u32, &'a [u8])> {
+pub fn event_path_at<'a>(schema: &Schema, text: &'a [u8]) -> Option<(u32, u32, &'a [u8])>
+    ensures found { IfSome result (λ r. (text.now ≡ event_path schema.now r.0 r.1 ++ r.2.now) × HasEventPath schema.now r.0 r.1) }
+    ensures exact { (class event : ℕ) (rest : List ℕ) → IsSchema schema.now → HasEventPath schema.now class event
+        → text.now ≡ event_path schema.now class event ++ 32 ∷ rest → IsSomeAnd result (λ r. (r.0 ≡ class) × (r.1 ≡ event) × (r.2.now ≡ 32 ∷ rest)) }
+{
     let (class, behind) = owner_at(schema, text)?;
-    let (name, rest) = until(behind, b' ')?;
-    Some((class, event_named(schema, class, name)?, rest))
+    let (event, rest) = event_at(schema, class, behind)?;
+    Some((class, event, rest))
 }

@@ -1,6 +1,6 @@
 //! Reads the first line of an entry. It touches nothing but the line that it is lent.
 
-ghost use Rattle.std.specs.Prelude.{◌≡◌, ◌×◌, ◌++◌, [], ℕ, List as Listed, codes, IfSome, IsSomeAnd, Some};
+ghost use Rattle.std.specs.Prelude.{◌≡◌, ◌++◌, [], ℕ, List as Listed, codes, IfSome, IsSomeAnd, Some};
 ghost use Rattle.rdb_base.specs.declared.journal.Entry.{Entry as Ended};
 ghost use Rattle.rdb_base.specs.declared.journal.Cause.{Cause as Why};
 ghost use Rattle.rdb_journal.specs.Lines.{head_line, cause_text, steps_of};

@@ -1,15 +1,14 @@
 //! Reads one line of a report behind those above it. It touches nothing but what it is lent.
 
-ghost use Rattle.std.specs.Prelude.{◌≡◌, ◌×◌, true, IfOk, IfSome, Some, None};
+ghost use Rattle.std.specs.Prelude.{◌≡◌, false, IfOk, IfSome, Some};
 ghost use Rattle.rdb_journal.specs.declared.progress.ReportLine.{ReportLine as Said};
+ghost use Rattle.rdb_schema.specs.Schemas.{IsSchema};
 ghost use Rattle.rdb_journal.specs.Grammar.{text_of, MayStand, is_last};
 
 use crate::client_reader::{client, note};
 use crate::head_reader::head;
 use crate::progress::{Progress, ReportLine, Section};
 use crate::step_reader::step;
-use crate::summary::totals;
-use rdb_base::journal::Entries;
 use rdb_base::list::NoMemory;
 use rdb_literals::front::after;
 use rdb_schema::schema::Schema;
@@ -48,23 +47,6 @@ fn client_line(progress: &Progress, line: &[u8]) -> Option<ReportLine> {
     Some(ReportLine::End(client(line, number)?))
 }
 
-/// Whether a line is that of the totals of these entries.
-fn is_totals(alloc: Global, journal: &Entries, line: &[u8]) -> Result<bool, NoMemory> {
-    let written = totals(alloc, journal)?;
-    Ok(written.as_str().as_bytes() == line)
-}
-
-/// The line of the totals, where it is that of the entries above, which are closed.
-fn totals_line(alloc: Global, progress: &Progress, line: &[u8]) -> Read {
-    if matches!(progress.section, Section::Over) {
-        return Ok(None);
-    }
-    if !is_totals(alloc, &progress.journal, line)? {
-        return Ok(None);
-    }
-    Ok(Some(ReportLine::Totals))
-}
-
 fn head_line(alloc: Global, progress: &Progress, line: &[u8]) -> Option<ReportLine> {
     if !matches!(progress.section, Section::Entries) {
         return None;
@@ -72,16 +54,10 @@ fn head_line(alloc: Global, progress: &Progress, line: &[u8]) -> Option<ReportLi
     Some(ReportLine::Entry(head(alloc, line)?))
 }
 
-/// Whether a line is that of the totals, if it is any.
-pub fn is_last(line: &[u8]) -> bool
-    ensures { result ≡ is_last line.now }
-{
-    line.starts_with(b"total ")
-}
-
-/// What a line says, where it may stand here. The cost grows with the line; that of the totals with the number of entries.
+/// What a line says that isn't the last, where it may stand here. The cost grows with the line.
 pub fn report_line(alloc: Global, schema: &Schema, progress: &Progress, line: &[u8]) -> Read
-    requires closed { is_last line.now ≡ true → progress.now.last ≡ None }
+    requires is_schema { IsSchema schema.now }
+    requires other { is_last line.now ≡ false }
     ensures found { IfOk result (λ o. IfSome o (λ says. (line.now ≡ text_of schema.now progress.now says) × MayStand schema.now progress.now says)) }
     ensures exact { (says : Said) → line.now ≡ text_of schema.now progress.now says → MayStand schema.now progress.now says
         → IfOk result (λ o. o ≡ Some says) }
@@ -91,9 +67,6 @@ pub fn report_line(alloc: Global, schema: &Schema, progress: &Progress, line: &[
     }
     if after(line, b"client ").is_some() {
         return Ok(client_line(progress, line));
-    }
-    if is_last(line) {
-        return totals_line(alloc, progress, line);
     }
     Ok(head_line(alloc, progress, line))
 }

@@ -1,6 +1,14 @@
 //! Reads an operation. Its values may stand there in any form in which they may be written: that it is the printed one is asked of the whole
 //! line. It touches nothing but the text and the schema that it is lent.
 
+ghost use Rattle.std.specs.Prelude.{◌≡◌, ◌++◌, ◌∷◌, ℕ, List, IfOk, IfSome, IsSomeAnd};
+ghost use Rattle.rdb_base.specs.declared.identity.Kind.TheVariants as kind;
+ghost use Rattle.rdb_base.specs.declared.operation.Op.{Op as Asked};
+ghost use Rattle.rdb_schema.specs.Schemas.{IsSchema};
+ghost use Rattle.rdb_model.specs.Fits.{Fits};
+ghost use Rattle.rdb_journal.specs.Operations.{operation_text};
+ghost use Rattle.rdb_journal.specs.Printed.{IsPrintableOperation, without_made};
+
 use crate::fronts::{class_at, index_path_at, number_at};
 use rdb_base::list::NoMemory;
 use rdb_base::operation::{How, Op, Place};
@@ -190,7 +198,11 @@ fn count_at<'a>(schema: &Schema, text: &'a [u8]) -> Option<(Op, &'a [u8])> {
 }
 
 /// The operation in front, and what stands behind it. A `new` has the id 0. The cost grows with the operation's text.
-pub fn operation_at<'a>(alloc: Global, schema: &Schema, text: &'a [u8]) -> Found<'a, Op> {
+pub fn operation_at<'a>(alloc: Global, schema: &Schema, text: &'a [u8]) -> Found<'a, Op>
+    ensures found { IfOk result (λ o. IfSome o (λ r. IsPrintableOperation schema.now r.0)) }
+    ensures exact { (op : Asked) (rest : List ℕ) → IsSchema schema.now → IsPrintableOperation schema.now op → Fits schema.now op kind.ReadWrite
+        → text.now ≡ operation_text schema.now op ++ 32 ∷ rest → IfOk result (λ o. IsSomeAnd o (λ r. (r.0 ≡ without_made op) × (r.1.now ≡ 32 ∷ rest))) }
+{
     if let Some(rest) = after(text, b"new ") {
         return new_at(alloc, schema, rest);
     }

@@ -1,7 +1,9 @@
 //! How far a report has come: the entries above a line, how many clients have had their lines, and which section stands. It touches
 //! nothing but itself.
 
-ghost use Rattle.std.specs.Prelude.{◌≡◌, None, OnOk, IfOk};
+ghost use Rattle.std.specs.Prelude.{◌≡◌, ◌≢◌, None, OnOk, IfOk};
+ghost use Rattle.std.specs.Bool.{OnTrue, OnFalse};
+ghost use Rattle.rdb_journal.specs.declared.progress.Section.TheVariants as section;
 ghost use Rattle.rdb_journal.specs.Grammar.{start, entries, open_kind, with_step, after, CountsOn};
 ghost use Rattle.rdb_journal.specs.Printed.{kind_of};
 
@@ -94,6 +96,17 @@ impl Progress {
         ensures { result ≡ open_kind self.now }
     {
         kind_of(self.last.as_ref()?)
+    }
+
+    /// Whether the totals stand above.
+    pub fn is_over(&self) -> bool
+        ensures yes { OnTrue result (self.now.section ≡ section.Over) }
+        ensures no { OnFalse result (self.now.section ≢ section.Over) }
+    {
+        match self.section {
+            Section::Over => true,
+            Section::Entries | Section::Clients => false,
+        }
     }
 
     /// Puts the last entry to those before it: no further operation follows.

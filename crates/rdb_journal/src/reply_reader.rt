@@ -1,6 +1,12 @@
 //! Reads the reply to an operation: one of a kind that the operation may get. Its values may stand there in any form in which they may be
 //! written: that it is the printed one is asked of the whole line. It touches nothing but the text and the schema that it is lent.
 
+ghost use Rattle.std.specs.Prelude.{◌≡◌, ◌++◌, ◌∷◌, [], IfOk, IfSome, Some};
+ghost use Rattle.rdb_base.specs.declared.operation.Reply.{Reply as Answer};
+ghost use Rattle.rdb_schema.specs.Schemas.{IsSchema};
+ghost use Rattle.rdb_journal.specs.Replies.{reply_text};
+ghost use Rattle.rdb_journal.specs.Printed.{IsPrintableReply, with_made};
+
 use crate::fronts::{index_at, number_at};
 use rdb_base::limits::MAX_ROW;
 use rdb_base::list::{List, NoMemory};
@@ -116,7 +122,11 @@ fn seek_reply(alloc: Global, schema: &Schema, class: u32, index: u32, text: &[u8
 }
 
 /// The reply to the operation, where the text is one and the line feed. The cost grows with the text.
-pub fn reply(alloc: Global, schema: &Schema, op: &Op, text: &[u8]) -> Told {
+pub fn reply(alloc: Global, schema: &Schema, op: &Op, text: &[u8]) -> Told
+    ensures found { IfOk result (λ o. IfSome o (λ told. IsPrintableReply schema.now (with_made op.now told) told)) }
+    ensures exact { (told : Answer) → IsSchema schema.now → IsPrintableReply schema.now (with_made op.now told) told
+        → text.now ≡ reply_text schema.now op.now told ++ 10 ∷ [] → IfOk result (λ o. o ≡ Some told) }
+{
     match op {
         Op::New { class, .. } => Ok(new_reply(schema, *class, text)),
         Op::Get { class, .. } => get_reply(alloc, schema, *class, text),

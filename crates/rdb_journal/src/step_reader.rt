@@ -1,11 +1,13 @@
 //! Reads the line of an operation and its reply. What is read is written again and compared with the line, so that only the printed form
 //! passes. It touches nothing but the line and the schema that it is lent.
 
-ghost use Rattle.std.specs.Prelude.{◌≡◌, ◌×◌, IfOk, IfSome, Some};
+ghost use Rattle.std.specs.Prelude.{◌≡◌, IfOk, IfSome, Some};
+ghost use Rattle.rdb_base.specs.declared.identity.Kind.TheVariants as kind;
+ghost use Rattle.rdb_schema.specs.Schemas.{IsSchema};
 ghost use Rattle.rdb_base.specs.declared.operation.Op.{Op as Asked};
 ghost use Rattle.rdb_base.specs.declared.operation.Reply.{Reply as Answer};
 ghost use Rattle.rdb_journal.specs.Lines.{operation_line};
-ghost use Rattle.rdb_journal.specs.Printed.{IsPrintableStep};
+ghost use Rattle.rdb_journal.specs.Printed.{IsPrintableStep, IsPrintableOperation, IsPrintableReply, with_made};
 
 use crate::entries::operation_line;
 use crate::operation_reader::operation_at;
@@ -21,7 +23,9 @@ use std::alloc::Global;
 type Step = Option<(Op, Reply)>;
 
 /// The operation with the id that its reply says was made.
-fn with_made(op: Op, reply: &Reply) -> Op {
+fn with_made(op: Op, reply: &Reply) -> Op
+    ensures { result ≡ with_made op reply.now }
+{
     match (op, reply) {
         (Op::New { class, row, .. }, Reply::Made(id)) => Op::New {
             class,
@@ -33,7 +37,11 @@ fn with_made(op: Op, reply: &Reply) -> Op {
 }
 
 /// The operation and the reply of a line, whether or not it is their printed form.
-fn spelled_step(alloc: Global, schema: &Schema, line: &[u8]) -> Result<Step, NoMemory> {
+fn spelled_step(alloc: Global, schema: &Schema, line: &[u8]) -> Result<Step, NoMemory>
+    ensures found { IfOk result (λ o. IfSome o (λ s. IsPrintableOperation schema.now s.0 × IsPrintableReply schema.now s.0 s.1)) }
+    ensures exact { (op : Asked) (told : Answer) → IsSchema schema.now → line.now ≡ operation_line schema.now (op, told)
+        → IsPrintableStep schema.now kind.ReadWrite (op, told) → IfOk result (λ o. o ≡ Some (op, told)) }
+{
     let Some(text) = after(line, b"  ") else {
         return Ok(None);
     };
@@ -51,15 +59,16 @@ fn spelled_step(alloc: Global, schema: &Schema, line: &[u8]) -> Result<Step, NoM
 
 /// The operation, which fits a transaction of this kind, and the reply of which this is the line. The cost grows with the line, and with the
 /// numbers of classes and of the class's indexes.
-pub fn step(alloc: Global, schema: &Schema, kind: Kind, line: &[u8]) -> Result<Step, NoMemory>
-    ensures found { IfOk result (λ o. IfSome o (λ s. (line.now ≡ operation_line schema.now s) × IsPrintableStep schema.now kind s)) }
-    ensures exact { (op : Asked) (told : Answer) → line.now ≡ operation_line schema.now (op, told) → IsPrintableStep schema.now kind (op, told)
+pub fn step(alloc: Global, schema: &Schema, may: Kind, line: &[u8]) -> Result<Step, NoMemory>
+    requires is_schema { IsSchema schema.now }
+    ensures found { IfOk result (λ o. IfSome o (λ s. (line.now ≡ operation_line schema.now s) × IsPrintableStep schema.now may s)) }
+    ensures exact { (op : Asked) (told : Answer) → line.now ≡ operation_line schema.now (op, told) → IsPrintableStep schema.now may (op, told)
         → IfOk result (λ o. o ≡ Some (op, told)) }
 {
     let Some(step) = spelled_step(alloc, schema, line)? else {
         return Ok(None);
     };
-    if !fits(schema, &step.0, kind) {
+    if !fits(schema, &step.0, may) {
         return Ok(None);
     }
     let written = operation_line(alloc, schema, &step)?;
