@@ -1,1 +1,4 @@
 pub mod Numbered
+pub mod TextLines
+pub mod Running
+pub mod FrontLemmas

@@ -5,5 +5,6 @@ pub mod Lines
 pub mod Endings
 pub mod Report
 pub mod Printed
+pub mod Heads
 pub mod Grammar
 pub mod Verdicts

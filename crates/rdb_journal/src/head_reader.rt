@@ -1,10 +1,13 @@
 //! Reads the first line of an entry. It touches nothing but the line that it is lent.
 
-ghost use Rattle.std.specs.Prelude.{◌≡◌, ◌++◌, [], ℕ, List as Listed, codes, IfSome, IsSomeAnd, Some};
+ghost use Rattle.std.specs.Prelude.{◌≡◌, ◌++◌, [], ℕ, List as Listed, codes, decimal, true, false, IfSome, IsSome, IsSomeAnd, Some};
 ghost use Rattle.rdb_base.specs.declared.journal.Entry.{Entry as Ended};
 ghost use Rattle.rdb_base.specs.declared.journal.Cause.{Cause as Why};
-ghost use Rattle.rdb_journal.specs.Lines.{head_line, cause_text, steps_of};
-ghost use Rattle.rdb_journal.specs.Printed.{IsPrintableHead, IsPrintableCause};
+ghost use Rattle.rdb_base.specs.declared.journal.Cause.TheVariants as cause;
+ghost use Rattle.rdb_literals.specs.Spelling.{BeginsNoDigit};
+ghost use Rattle.rdb_journal.specs.Lines.{cause_text};
+ghost use Rattle.rdb_journal.specs.Heads.{IsHead, IsHeadOf};
+ghost use Rattle.rdb_journal.specs.Printed.{IsWide, IsNarrow, IsPrintableCause};
 
 use crate::fronts::{narrow_at, number_at};
 use rdb_base::journal::{Cause, Entry, Story};
@@ -21,14 +24,23 @@ struct Origin {
 }
 
 /// The line feed that ends a line, and nothing behind it.
-fn line_end(text: &[u8]) -> Option<()> {
+fn line_end(text: &[u8]) -> Option<()>
+    ensures found { IfSome result (λ r. text.now ≡ codes "\n") }
+    ensures exact { text.now ≡ codes "\n" → IsSome result }
+{
     if !is_word(text, b"\n") {
         return None;
     }
     Some(())
 }
 
-fn origin_at(text: &[u8]) -> Option<(Origin, &[u8])> {
+fn origin_at(text: &[u8]) -> Option<(Origin, &[u8])>
+    ensures found { IfSome result (λ r. text.now ≡ codes " client " ++ (decimal r.0.client ++ (codes " tx " ++ (decimal r.0.number
+        ++ (codes " begun " ++ (decimal r.0.begun ++ r.1.now)))))) }
+    ensures exact { (client number begun : ℕ) (rest : Listed ℕ) → IsNarrow client → IsWide number → IsWide begun → BeginsNoDigit rest
+        → text.now ≡ codes " client " ++ (decimal client ++ (codes " tx " ++ (decimal number ++ (codes " begun " ++ (decimal begun ++ rest)))))
+        → IsSomeAnd result (λ r. (r.0 ≡ record { client = client; number = number; begun = begun }) × (r.1.now ≡ rest)) }
+{
     let (client, rest) = narrow_at(after(text, b" client ")?)?;
     let (number, rest) = number_at(after(rest, b" tx ")?)?;
     let (begun, rest) = number_at(after(rest, b" begun ")?)?;
@@ -41,7 +53,9 @@ fn origin_at(text: &[u8]) -> Option<(Origin, &[u8])> {
 }
 
 /// The story without operations of a transaction that saw so many commits.
-fn story(alloc: Global, origin: Origin, snapshot: u64) -> Story {
+fn story(alloc: Global, origin: Origin, snapshot: u64) -> Story
+    ensures { result ≡ record { client = origin.client; number = origin.number; begun = origin.begun; snapshot = snapshot; done = [] } }
+{
     let Origin {
         client,
         number,
@@ -56,7 +70,10 @@ fn story(alloc: Global, origin: Origin, snapshot: u64) -> Story {
     }
 }
 
-fn commit(alloc: Global, text: &[u8]) -> Option<Entry> {
+fn commit(alloc: Global, text: &[u8]) -> Option<Entry>
+    ensures found { IfSome result (IsHeadOf 111 text.now) }
+    ensures exact { (e : Ended) → IsHeadOf 111 text.now e → result ≡ Some e }
+{
     let (commit, rest) = number_at(after(text, b"commit ")?)?;
     let (origin, rest) = origin_at(rest)?;
     let (snapshot, rest) = number_at(after(rest, b" snapshot ")?)?;
@@ -65,7 +82,10 @@ fn commit(alloc: Global, text: &[u8]) -> Option<Entry> {
     Some(Entry::Commit { story, commit })
 }
 
-fn read(alloc: Global, text: &[u8]) -> Option<Entry> {
+fn read(alloc: Global, text: &[u8]) -> Option<Entry>
+    ensures found { IfSome result (IsHeadOf 101 text.now) }
+    ensures exact { (e : Ended) → IsHeadOf 101 text.now e → result ≡ Some e }
+{
     let (origin, rest) = origin_at(after(text, b"read")?)?;
     let (snapshot, rest) = number_at(after(rest, b" at ")?)?;
     line_end(rest)?;
@@ -73,19 +93,33 @@ fn read(alloc: Global, text: &[u8]) -> Option<Entry> {
     Some(Entry::Read { story })
 }
 
-fn conflict_at(text: &[u8]) -> Option<(Cause, &[u8])> {
+fn conflict_at(text: &[u8]) -> Option<(Cause, &[u8])>
+    ensures found { IfSome result (λ r. text.now ≡ cause_text r.0 ++ r.1.now) }
+    ensures exact { (commit operation : ℕ) (rest : Listed ℕ) → IsWide commit → IsNarrow operation → BeginsNoDigit rest
+        → text.now ≡ codes "conflict " ++ (decimal commit ++ (codes " " ++ (decimal operation ++ rest)))
+        → IsSomeAnd result (λ r. (r.0 ≡ cause.Conflict commit operation) × (r.1.now ≡ rest)) }
+{
     let (commit, rest) = number_at(after(text, b"conflict ")?)?;
     let (operation, rest) = narrow_at(after(rest, b" ")?)?;
     Some((Cause::Conflict { commit, operation }, rest))
 }
 
-fn full_at(text: &[u8]) -> Option<(Cause, &[u8])> {
+fn full_at(text: &[u8]) -> Option<(Cause, &[u8])>
+    ensures found { IfSome result (λ r. text.now ≡ cause_text r.0 ++ r.1.now) }
+    ensures exact { (need room : ℕ) (rest : Listed ℕ) → IsNarrow need → IsNarrow room → BeginsNoDigit rest
+        → text.now ≡ codes "full " ++ (decimal need ++ (codes " " ++ (decimal room ++ rest)))
+        → IsSomeAnd result (λ r. (r.0 ≡ cause.Full need room) × (r.1.now ≡ rest)) }
+{
     let (need, rest) = narrow_at(after(text, b"full ")?)?;
     let (room, rest) = narrow_at(after(rest, b" ")?)?;
     Some((Cause::Full { need, room }, rest))
 }
 
-fn cause_at(text: &[u8]) -> Option<(Cause, &[u8])> {
+fn cause_at(text: &[u8]) -> Option<(Cause, &[u8])>
+    ensures found { IfSome result (λ r. (text.now ≡ cause_text r.0 ++ r.1.now) × IsPrintableCause r.0) }
+    ensures exact { (why : Why) (rest : Listed ℕ) → IsPrintableCause why → BeginsNoDigit rest → text.now ≡ cause_text why ++ rest
+        → IsSomeAnd result (λ r. (r.0 ≡ why) × (r.1.now ≡ rest)) }
+{
     if let Some(rest) = after(text, b"rollback") {
         return Some((Cause::Asked, rest));
     }
@@ -95,7 +129,10 @@ fn cause_at(text: &[u8]) -> Option<(Cause, &[u8])> {
     full_at(text)
 }
 
-fn abort(alloc: Global, text: &[u8]) -> Option<Entry> {
+fn abort(alloc: Global, text: &[u8]) -> Option<Entry>
+    ensures found { IfSome result (IsHeadOf 98 text.now) }
+    ensures exact { (e : Ended) → IsHeadOf 98 text.now e → result ≡ Some e }
+{
     let (origin, rest) = origin_at(after(text, b"abort")?)?;
     let (snapshot, rest) = number_at(after(rest, b" at ")?)?;
     let (cause, rest) = cause_at(after(rest, b" ")?)?;
@@ -105,7 +142,12 @@ fn abort(alloc: Global, text: &[u8]) -> Option<Entry> {
 }
 
 /// Whether a dead client's last transaction was finished, where that is all that the text says.
-fn finished(text: &[u8]) -> Option<bool> {
+fn finished(text: &[u8]) -> Option<bool>
+    ensures yes { result ≡ Some true → text.now ≡ codes " finished\n" }
+    ensures no { result ≡ Some false → text.now ≡ codes " undone\n" }
+    ensures finished { text.now ≡ codes " finished\n" → result ≡ Some true }
+    ensures undone { text.now ≡ codes " undone\n" → result ≡ Some false }
+{
     if is_word(text, b" finished\n") {
         return Some(true);
     }
@@ -115,7 +157,10 @@ fn finished(text: &[u8]) -> Option<bool> {
     None
 }
 
-fn handled(text: &[u8]) -> Option<Entry> {
+fn handled(text: &[u8]) -> Option<Entry>
+    ensures found { IfSome result (IsHeadOf 97 text.now) }
+    ensures exact { (e : Ended) → IsHeadOf 97 text.now e → result ≡ Some e }
+{
     let (client, rest) = narrow_at(after(text, b"handled client ")?)?;
     let (by, rest) = narrow_at(after(rest, b" by ")?)?;
     let (at, rest) = number_at(after(rest, b" at ")?)?;
@@ -128,7 +173,10 @@ fn handled(text: &[u8]) -> Option<Entry> {
     })
 }
 
-fn closed(text: &[u8]) -> Option<Entry> {
+fn closed(text: &[u8]) -> Option<Entry>
+    ensures found { IfSome result (IsHeadOf 108 text.now) }
+    ensures exact { (e : Ended) → IsHeadOf 108 text.now e → result ≡ Some e }
+{
     let (client, rest) = narrow_at(after(text, b"closed client ")?)?;
     line_end(rest)?;
     Some(Entry::Closed { client })
@@ -136,16 +184,20 @@ fn closed(text: &[u8]) -> Option<Entry> {
 
 /// The entry, without operations, whose first line this is. It takes no memory, and the cost grows with the line.
 pub fn head(alloc: Global, line: &[u8]) -> Option<Entry>
-    ensures found { IfSome result (λ e. (line.now ≡ head_line e) × IsPrintableHead e × (steps_of e ≡ [])) }
-    ensures exact { (e : Ended) → line.now ≡ head_line e → IsPrintableHead e → steps_of e ≡ [] → result ≡ Some e }
+    ensures found { IfSome result (IsHead line.now) }
+    ensures exact { (e : Ended) → IsHead line.now e → result ≡ Some e }
 {
-    match line.first()? {
-        b'c' => match commit(alloc, line) {
-            Some(entry) => Some(entry),
-            None => closed(line),
-        },
-        b'r' => read(alloc, line),
-        b'a' => abort(alloc, line),
-        _ => handled(line),
+    if let Some(entry) = commit(alloc, line) {
+        return Some(entry);
     }
+    if let Some(entry) = read(alloc, line) {
+        return Some(entry);
+    }
+    if let Some(entry) = abort(alloc, line) {
+        return Some(entry);
+    }
+    if let Some(entry) = handled(line) {
+        return Some(entry);
+    }
+    closed(line)
 }
