@@ -3,10 +3,11 @@
 ghost use Rattle.std.specs.Prelude.{◌≡◌, ◌++◌, [], ℕ, List as Listed, codes, decimal, true, false, IfSome, IsSome, IsSomeAnd, Some};
 ghost use Rattle.rdb_base.specs.declared.journal.Entry.{Entry as Ended};
 ghost use Rattle.rdb_base.specs.declared.journal.Cause.{Cause as Why};
+ghost use Rattle.rdb_base.specs.declared.journal.Entry.TheVariants as entry;
 ghost use Rattle.rdb_base.specs.declared.journal.Cause.TheVariants as cause;
 ghost use Rattle.rdb_literals.specs.Spelling.{BeginsNoDigit};
 ghost use Rattle.rdb_journal.specs.Lines.{cause_text};
-ghost use Rattle.rdb_journal.specs.Heads.{IsHead, IsHeadOf};
+ghost use Rattle.rdb_journal.specs.Heads.{IsHead};
 ghost use Rattle.rdb_journal.specs.Printed.{IsWide, IsNarrow, IsPrintableCause};
 
 use crate::fronts::{narrow_at, number_at};
@@ -71,10 +72,13 @@ fn story(alloc: Global, origin: Origin, snapshot: u64) -> Story
 }
 
 fn commit(alloc: Global, text: &[u8]) -> Option<Entry>
-    ensures found { IfSome result (IsHeadOf 111 text.now) }
-    ensures exact { (e : Ended) → IsHeadOf 111 text.now e → result ≡ Some e }
+    ensures found { IfSome result (IsHead (codes "commit " ++ text.now)) }
+    ensures exact { (commit client number begun snapshot : ℕ) → IsWide commit → IsNarrow client → IsWide number → IsWide begun → IsWide snapshot
+        → text.now ≡ decimal commit ++ (codes " client " ++ (decimal client ++ (codes " tx " ++ (decimal number
+        ++ (codes " begun " ++ (decimal begun ++ (codes " snapshot " ++ (decimal snapshot ++ codes "\n"))))))))
+        → result ≡ Some (entry.Commit (record { client = client; number = number; begun = begun; snapshot = snapshot; done = [] }) commit) }
 {
-    let (commit, rest) = number_at(after(text, b"commit ")?)?;
+    let (commit, rest) = number_at(text)?;
     let (origin, rest) = origin_at(rest)?;
     let (snapshot, rest) = number_at(after(rest, b" snapshot ")?)?;
     line_end(rest)?;
@@ -83,10 +87,13 @@ fn commit(alloc: Global, text: &[u8]) -> Option<Entry>
 }
 
 fn read(alloc: Global, text: &[u8]) -> Option<Entry>
-    ensures found { IfSome result (IsHeadOf 101 text.now) }
-    ensures exact { (e : Ended) → IsHeadOf 101 text.now e → result ≡ Some e }
+    ensures found { IfSome result (IsHead (codes "read" ++ text.now)) }
+    ensures exact { (client number begun snapshot : ℕ) → IsNarrow client → IsWide number → IsWide begun → IsWide snapshot
+        → text.now ≡ codes " client " ++ (decimal client ++ (codes " tx " ++ (decimal number
+        ++ (codes " begun " ++ (decimal begun ++ (codes " at " ++ (decimal snapshot ++ codes "\n")))))))
+        → result ≡ Some (entry.Read (record { client = client; number = number; begun = begun; snapshot = snapshot; done = [] })) }
 {
-    let (origin, rest) = origin_at(after(text, b"read")?)?;
+    let (origin, rest) = origin_at(text)?;
     let (snapshot, rest) = number_at(after(rest, b" at ")?)?;
     line_end(rest)?;
     let story = story(alloc, origin, snapshot);
@@ -94,23 +101,23 @@ fn read(alloc: Global, text: &[u8]) -> Option<Entry>
 }
 
 fn conflict_at(text: &[u8]) -> Option<(Cause, &[u8])>
-    ensures found { IfSome result (λ r. text.now ≡ cause_text r.0 ++ r.1.now) }
+    ensures found { IfSome result (λ r. (codes "conflict " ++ text.now ≡ cause_text r.0 ++ r.1.now) × IsPrintableCause r.0) }
     ensures exact { (commit operation : ℕ) (rest : Listed ℕ) → IsWide commit → IsNarrow operation → BeginsNoDigit rest
-        → text.now ≡ codes "conflict " ++ (decimal commit ++ (codes " " ++ (decimal operation ++ rest)))
+        → text.now ≡ (decimal commit ++ (codes " " ++ (decimal operation ++ rest)))
         → IsSomeAnd result (λ r. (r.0 ≡ cause.Conflict commit operation) × (r.1.now ≡ rest)) }
 {
-    let (commit, rest) = number_at(after(text, b"conflict ")?)?;
+    let (commit, rest) = number_at(text)?;
     let (operation, rest) = narrow_at(after(rest, b" ")?)?;
     Some((Cause::Conflict { commit, operation }, rest))
 }
 
 fn full_at(text: &[u8]) -> Option<(Cause, &[u8])>
-    ensures found { IfSome result (λ r. text.now ≡ cause_text r.0 ++ r.1.now) }
+    ensures found { IfSome result (λ r. (codes "full " ++ text.now ≡ cause_text r.0 ++ r.1.now) × IsPrintableCause r.0) }
     ensures exact { (need room : ℕ) (rest : Listed ℕ) → IsNarrow need → IsNarrow room → BeginsNoDigit rest
-        → text.now ≡ codes "full " ++ (decimal need ++ (codes " " ++ (decimal room ++ rest)))
+        → text.now ≡ (decimal need ++ (codes " " ++ (decimal room ++ rest)))
         → IsSomeAnd result (λ r. (r.0 ≡ cause.Full need room) × (r.1.now ≡ rest)) }
 {
-    let (need, rest) = narrow_at(after(text, b"full ")?)?;
+    let (need, rest) = narrow_at(text)?;
     let (room, rest) = narrow_at(after(rest, b" ")?)?;
     Some((Cause::Full { need, room }, rest))
 }
@@ -123,17 +130,20 @@ fn cause_at(text: &[u8]) -> Option<(Cause, &[u8])>
     if let Some(rest) = after(text, b"rollback") {
         return Some((Cause::Asked, rest));
     }
-    if let Some(found) = conflict_at(text) {
-        return Some(found);
+    if let Some(rest) = after(text, b"conflict ") {
+        return conflict_at(rest);
     }
-    full_at(text)
+    full_at(after(text, b"full ")?)
 }
 
 fn abort(alloc: Global, text: &[u8]) -> Option<Entry>
-    ensures found { IfSome result (IsHeadOf 98 text.now) }
-    ensures exact { (e : Ended) → IsHeadOf 98 text.now e → result ≡ Some e }
+    ensures found { IfSome result (IsHead (codes "abort" ++ text.now)) }
+    ensures exact { (client number begun snapshot : ℕ) (why : Why) → IsNarrow client → IsWide number → IsWide begun → IsWide snapshot → IsPrintableCause why
+        → text.now ≡ codes " client " ++ (decimal client ++ (codes " tx " ++ (decimal number
+        ++ (codes " begun " ++ (decimal begun ++ (codes " at " ++ (decimal snapshot ++ (codes " " ++ (cause_text why ++ codes "\n")))))))))
+        → result ≡ Some (entry.Abort (record { client = client; number = number; begun = begun; snapshot = snapshot; done = [] }) why) }
 {
-    let (origin, rest) = origin_at(after(text, b"abort")?)?;
+    let (origin, rest) = origin_at(text)?;
     let (snapshot, rest) = number_at(after(rest, b" at ")?)?;
     let (cause, rest) = cause_at(after(rest, b" ")?)?;
     line_end(rest)?;
@@ -158,10 +168,15 @@ fn finished(text: &[u8]) -> Option<bool>
 }
 
 fn handled(text: &[u8]) -> Option<Entry>
-    ensures found { IfSome result (IsHeadOf 97 text.now) }
-    ensures exact { (e : Ended) → IsHeadOf 97 text.now e → result ≡ Some e }
+    ensures found { IfSome result (IsHead (codes "handled client " ++ text.now)) }
+    ensures exact_finished { (client by at : ℕ) → IsNarrow client → IsNarrow by → IsWide at
+        → text.now ≡ decimal client ++ (codes " by " ++ (decimal by ++ (codes " at " ++ (decimal at ++ codes " finished\n"))))
+        → result ≡ Some (entry.Handled client by at true) }
+    ensures exact_undone { (client by at : ℕ) → IsNarrow client → IsNarrow by → IsWide at
+        → text.now ≡ decimal client ++ (codes " by " ++ (decimal by ++ (codes " at " ++ (decimal at ++ codes " undone\n"))))
+        → result ≡ Some (entry.Handled client by at false) }
 {
-    let (client, rest) = narrow_at(after(text, b"handled client ")?)?;
+    let (client, rest) = narrow_at(text)?;
     let (by, rest) = narrow_at(after(rest, b" by ")?)?;
     let (at, rest) = number_at(after(rest, b" at ")?)?;
     let finished = finished(rest)?;
@@ -174,10 +189,12 @@ fn handled(text: &[u8]) -> Option<Entry>
 }
 
 fn closed(text: &[u8]) -> Option<Entry>
-    ensures found { IfSome result (IsHeadOf 108 text.now) }
-    ensures exact { (e : Ended) → IsHeadOf 108 text.now e → result ≡ Some e }
+    ensures found { IfSome result (IsHead (codes "closed client " ++ text.now)) }
+    ensures exact { (client : ℕ) → IsNarrow client
+        → text.now ≡ decimal client ++ codes "\n"
+        → result ≡ Some (entry.Closed client) }
 {
-    let (client, rest) = narrow_at(after(text, b"closed client ")?)?;
+    let (client, rest) = narrow_at(text)?;
     line_end(rest)?;
     Some(Entry::Closed { client })
 }
@@ -187,17 +204,17 @@ pub fn head(alloc: Global, line: &[u8]) -> Option<Entry>
     ensures found { IfSome result (IsHead line.now) }
     ensures exact { (e : Ended) → IsHead line.now e → result ≡ Some e }
 {
-    if let Some(entry) = commit(alloc, line) {
-        return Some(entry);
+    if let Some(rest) = after(line, b"commit ") {
+        return commit(alloc, rest);
     }
-    if let Some(entry) = read(alloc, line) {
-        return Some(entry);
+    if let Some(rest) = after(line, b"read") {
+        return read(alloc, rest);
     }
-    if let Some(entry) = abort(alloc, line) {
-        return Some(entry);
+    if let Some(rest) = after(line, b"abort") {
+        return abort(alloc, rest);
     }
-    if let Some(entry) = handled(line) {
-        return Some(entry);
+    if let Some(rest) = after(line, b"handled client ") {
+        return handled(rest);
     }
-    closed(line)
+    closed(after(line, b"closed client ")?)
 }
