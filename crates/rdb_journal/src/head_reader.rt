@@ -36,13 +36,13 @@ fn line_end(text: &[u8]) -> Option<()>
 }
 
 fn origin_at(text: &[u8]) -> Option<(Origin, &[u8])>
-    ensures found { IfSome result (λ r. text.now ≡ codes " client " ++ (decimal r.0.client ++ (codes " tx " ++ (decimal r.0.number
-        ++ (codes " begun " ++ (decimal r.0.begun ++ r.1.now)))))) }
+    ensures found { IfSome result (λ r. text.now ≡ decimal r.0.client ++ (codes " tx " ++ (decimal r.0.number
+        ++ (codes " begun " ++ (decimal r.0.begun ++ r.1.now))))) }
     ensures exact { (client number begun : ℕ) (rest : Listed ℕ) → IsNarrow client → IsWide number → IsWide begun → BeginsNoDigit rest
-        → text.now ≡ codes " client " ++ (decimal client ++ (codes " tx " ++ (decimal number ++ (codes " begun " ++ (decimal begun ++ rest)))))
+        → text.now ≡ decimal client ++ (codes " tx " ++ (decimal number ++ (codes " begun " ++ (decimal begun ++ rest))))
         → IsSomeAnd result (λ r. (r.0 ≡ record { client = client; number = number; begun = begun }) × (r.1.now ≡ rest)) }
 {
-    let (client, rest) = narrow_at(after(text, b" client ")?)?;
+    let (client, rest) = narrow_at(text)?;
     let (number, rest) = number_at(after(rest, b" tx ")?)?;
     let (begun, rest) = number_at(after(rest, b" begun ")?)?;
     let origin = Origin {
@@ -79,7 +79,7 @@ fn commit(alloc: Global, text: &[u8]) -> Option<Entry>
         → result ≡ Some (entry.Commit (record { client = client; number = number; begun = begun; snapshot = snapshot; done = [] }) commit) }
 {
     let (commit, rest) = number_at(text)?;
-    let (origin, rest) = origin_at(rest)?;
+    let (origin, rest) = origin_at(after(rest, b" client ")?)?;
     let (snapshot, rest) = number_at(after(rest, b" snapshot ")?)?;
     line_end(rest)?;
     let story = story(alloc, origin, snapshot);
@@ -87,10 +87,10 @@ fn commit(alloc: Global, text: &[u8]) -> Option<Entry>
 }
 
 fn read(alloc: Global, text: &[u8]) -> Option<Entry>
-    ensures found { IfSome result (IsHead (codes "read" ++ text.now)) }
+    ensures found { IfSome result (IsHead (codes "read client " ++ text.now)) }
     ensures exact { (client number begun snapshot : ℕ) → IsNarrow client → IsWide number → IsWide begun → IsWide snapshot
-        → text.now ≡ codes " client " ++ (decimal client ++ (codes " tx " ++ (decimal number
-        ++ (codes " begun " ++ (decimal begun ++ (codes " at " ++ (decimal snapshot ++ codes "\n")))))))
+        → text.now ≡ decimal client ++ (codes " tx " ++ (decimal number
+        ++ (codes " begun " ++ (decimal begun ++ (codes " at " ++ (decimal snapshot ++ codes "\n"))))))
         → result ≡ Some (entry.Read (record { client = client; number = number; begun = begun; snapshot = snapshot; done = [] })) }
 {
     let (origin, rest) = origin_at(text)?;
@@ -137,10 +137,10 @@ fn cause_at(text: &[u8]) -> Option<(Cause, &[u8])>
 }
 
 fn abort(alloc: Global, text: &[u8]) -> Option<Entry>
-    ensures found { IfSome result (IsHead (codes "abort" ++ text.now)) }
+    ensures found { IfSome result (IsHead (codes "abort client " ++ text.now)) }
     ensures exact { (client number begun snapshot : ℕ) (why : Why) → IsNarrow client → IsWide number → IsWide begun → IsWide snapshot → IsPrintableCause why
-        → text.now ≡ codes " client " ++ (decimal client ++ (codes " tx " ++ (decimal number
-        ++ (codes " begun " ++ (decimal begun ++ (codes " at " ++ (decimal snapshot ++ (codes " " ++ (cause_text why ++ codes "\n")))))))))
+        → text.now ≡ decimal client ++ (codes " tx " ++ (decimal number
+        ++ (codes " begun " ++ (decimal begun ++ (codes " at " ++ (decimal snapshot ++ (codes " " ++ (cause_text why ++ codes "\n"))))))))
         → result ≡ Some (entry.Abort (record { client = client; number = number; begun = begun; snapshot = snapshot; done = [] }) why) }
 {
     let (origin, rest) = origin_at(text)?;
@@ -207,10 +207,10 @@ pub fn head(alloc: Global, line: &[u8]) -> Option<Entry>
     if let Some(rest) = after(line, b"commit ") {
         return commit(alloc, rest);
     }
-    if let Some(rest) = after(line, b"read") {
+    if let Some(rest) = after(line, b"read client ") {
         return read(alloc, rest);
     }
-    if let Some(rest) = after(line, b"abort") {
+    if let Some(rest) = after(line, b"abort client ") {
         return abort(alloc, rest);
     }
     if let Some(rest) = after(line, b"handled client ") {
