@@ -16,12 +16,12 @@ use Rattle.rdb_journal.specs.Grammar.{IsReport, IsFirstBad}
 -- how many entries there are of each kind
 abbrev pub counts_of : List Entry → Counts
 counts_of journal = record {
-    commits = count_by is_commit journal;
-    reads = count_by is_read journal;
-    aborts = count_by is_abort journal;
-    handled = count_by is_handled journal;
-    closed = count_by is_closed journal;
-  }
+  commits = count_by is_commit journal;
+  reads = count_by is_read journal;
+  aborts = count_by is_abort journal;
+  handled = count_by is_handled journal;
+  closed = count_by is_closed journal;
+}
 
 -- the fault names the first bad line, or memory was wanting
 abbrev pub IsReadFault : Schema → List ℕ → ReadFault → Type 0

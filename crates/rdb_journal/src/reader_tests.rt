@@ -37,7 +37,11 @@ fn items(alloc: Global) -> Result<Schema, NoMemory> {
 }
 
 /// What is said of a report.
-fn judged(schema: &Schema, alloc: Global, report: &[u8]) -> Result<Result<Counts, AuditFault>, Fail> {
+fn judged(
+    schema: &Schema,
+    alloc: Global,
+    report: &[u8],
+) -> Result<Result<Counts, AuditFault>, Fail> {
     if !is_schema(schema) || report.len() > 1_000_000 {
         return Err(Fail::new("it doesn't fit"));
     }
@@ -108,9 +112,21 @@ fn the_first_conflict_is_legal_and_its_faults_are_named(rt: HostRuntime) -> Resu
     let alloc = rt.alloc();
     expect(&rt, alloc, "client 1 done", "client 1 done", Ok(LEGAL))?;
     let reply = illegal(2, Why::Reply { operation: 1 });
-    expect(&rt, alloc, "snapshot 1\n  get Item 1 -> {5}", "snapshot 1\n  get Item 1 -> {9}", reply)?;
+    expect(
+        &rt,
+        alloc,
+        "snapshot 1\n  get Item 1 -> {5}",
+        "snapshot 1\n  get Item 1 -> {9}",
+        reply,
+    )?;
     expect(&rt, alloc, "commit 2", "commit 3", illegal(2, Why::Number))?;
-    expect(&rt, alloc, "total commits 2 reads 0 aborts 1 handled 0\n", "", bad(13))?;
+    expect(
+        &rt,
+        alloc,
+        "total commits 2 reads 0 aborts 1 handled 0\n",
+        "",
+        bad(13),
+    )?;
     Ok(())
 }
 
@@ -125,8 +141,20 @@ fn the_first_bad_line_is_named(rt: HostRuntime) -> Result<(), Fail> {
     expect(&rt, alloc, "  new Item", "  new Itemm", bad(2))?;
     expect(&rt, alloc, "commit 2", "read", bad(3))?;
     expect(&rt, alloc, "conflict 2 1", "conflict 2 4294967296", bad(6))?;
-    expect(&rt, alloc, "closed client 1\n", "  get Item 1 -> {5} \n", bad(9))?;
-    expect(&rt, alloc, "client 1 done\nclient 2", "client 2 done\nclient 1", bad(11))?;
+    expect(
+        &rt,
+        alloc,
+        "closed client 1\n",
+        "  get Item 1 -> {5} \n",
+        bad(9),
+    )?;
+    expect(
+        &rt,
+        alloc,
+        "client 1 done\nclient 2",
+        "client 2 done\nclient 1",
+        bad(11),
+    )?;
     expect(&rt, alloc, "client 2 done", "client 2  done", bad(12))?;
     expect(&rt, alloc, "client 2 done", "closed client 3", bad(12))?;
     expect(&rt, alloc, "total commits 2", "total commits 3", bad(13))?;

@@ -46,7 +46,8 @@ fn get_reply(alloc: Global, schema: &Schema, class: u32, text: &[u8]) -> Told {
         return Ok(Some(Reply::NotFound));
     }
     match row_at(alloc, schema, class, text)? {
-        Some((row, rest)) if is_word(rest, b"\n") && capped_length(schema, class, &row) as usize <= MAX_ROW => {
+        Some((row, rest))
+            if is_word(rest, b"\n") && capped_length(schema, class, &row) as usize <= MAX_ROW => {
             Ok(Some(Reply::Row(row)))
         }
         _ => Ok(None),
