@@ -1,0 +1,6 @@
+pub mod Bits
+pub mod Trie
+pub mod Shape
+pub mod Lookup
+pub mod Walks
+pub mod Changes
