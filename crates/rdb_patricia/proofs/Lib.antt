@@ -1,0 +1,3 @@
+pub mod BitLemmas
+pub mod PartingLemmas
+pub mod ListingLemmas

@@ -37,9 +37,13 @@ pub record IsFirstDifference (number : ℕ) (a b : List ℕ) : Type 0 where
   pub alike : AreAlikeBelow number a b
   pub differ : bit_at a number ≢ bit_at b number
 
--- the text that is the key of a version
+-- the text that is the key of a version, which may be none; and of the one at a place
+abbrev pub text_in : Option Version → List ℕ
+text_in None = []
+text_in (Some version) = option_map_or (λ text. text) (text_of version.key) []
+
 abbrev pub text_at : Sayings → CellRef → List ℕ
-text_at said r = option_map_or (λ v. option_map_or (λ text. text) (text_of v.key) []) (said.version_of r.number) []
+text_at said r = text_in (said.version_of r.number)
 
 -- the version's key is one text, which is no longer than a key may be
 pub record HasTextKey (said : Sayings) (r : CellRef) : Type 0 where

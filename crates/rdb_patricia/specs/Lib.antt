@@ -4,3 +4,4 @@ pub mod Shape
 pub mod Lookup
 pub mod Walks
 pub mod Changes
+pub mod PatriciaLaws

@@ -1,6 +1,7 @@
 -- What a look-up by a text gives.
 use Rattle.std.specs.Prelude.{◌||◌, ◌&&◌, ℕ, List, Bool, true, false, not, length, nat_le, eqb, filter, IsPermutation}
-use Rattle.std.specs.List.{list_all, starts_with, pointwise}
+use Rattle.std.specs.List.{list_all, starts_with}
+use Rattle.std.specs.Cmp.Lexicographic.{pointwise}
 use Rattle.rdb_pages.specs.declared.cell.CellRef.{CellRef}
 use Rattle.rdb_cells.specs.Images.{Image}
 use Rattle.rdb_cells.specs.Index.{Nature, Lists, WhateverListed}

@@ -1,10 +1,10 @@
 -- The shape of a Patricia tree, and when one stands in cells.
-use Rattle.std.specs.Prelude.{◌≡◌, ◌≢◌, ◌<◌, ◌++◌, ℕ, List, [], Option, Some, None, Bool, true, false, Contains}
+use Rattle.std.specs.Prelude.{◌≡◌, ◌<◌, ◌++◌, ℕ, List, Option, Some, None, Bool, true, false, Contains}
 use Rattle.rdb_pages.specs.declared.cell.CellRef.{CellRef}
 use Rattle.rdb_cells.specs.Images.{Image}
 use Rattle.rdb_cells.specs.Index.{Nature}
 use Rattle.rdb_cells.specs.Keys.{Sayings, ListsVersions}
-use Rattle.rdb_cells.specs.Links.{IsAmong, Placed, elements, numbers, StandApart}
+use Rattle.rdb_cells.specs.Links.{IsAmong, elements, numbers, StandApart}
 use Rattle.rdb_cells.specs.Parts.{patricia_part}
 use Rattle.rdb_cells.specs.PlainList.{LeadsTo}
 use Rattle.rdb_cells.specs.References.{IsPageCell}
@@ -15,14 +15,13 @@ use Rattle.rdb_patricia.specs.Trie.{Trie, Entries, Parted, IsWritten, root_of, v
 abbrev pub Texts : Type 0
 Texts = CellRef → List ℕ
 
--- there are entries, and all of one key
-pub record AreOfOneKey (text : Texts) (chain : List (Placed CellRef)) : Type 0 where
-  pub some : chain ≢ []
-  pub same : (q r : CellRef) → Contains (elements chain) q → Contains (elements chain) r → text q ≡ text r
+-- these versions have the key of the first one
+abbrev pub HaveKeyOf : Texts → CellRef → List CellRef → Type 0
+HaveKeyOf text first rs = (r : CellRef) → Contains rs r → text r ≡ text first
 
 -- the branches at the roots of a trie have higher numbers than this
 abbrev pub IsBelow : ℕ → Trie → Type 0
-IsBelow bit (Entries chain) = Unit {0}
+IsBelow bit (Entries p ps) = Unit {0}
 IsBelow bit (Parted n lower zeros ones) = bit < lower
 
 -- the bit is the first by which the keys of both sides part: 0 on one, 1 on the other; and those below part by later bits
@@ -36,7 +35,7 @@ pub record PartsAt (text : Texts) (bit : ℕ) (zeros ones : Trie) : Type 0 where
 
 -- each branch parts its keys, and entries side by side are of one key
 abbrev pub IsShaped : Texts → Trie → Type 0
-IsShaped text (Entries chain) = AreOfOneKey text chain
+IsShaped text (Entries p ps) = HaveKeyOf text p.element (elements ps)
 IsShaped text (Parted n bit zeros ones) = PartsAt text bit zeros ones × IsShaped text zeros × IsShaped text ones
 
 abbrev pub IsShapedTree : Texts → Option Trie → Type 0

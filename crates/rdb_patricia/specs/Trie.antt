@@ -14,9 +14,9 @@ pub data Held : Type 0 where
   Branch : ℕ → Held
   Entry : CellRef → Held
 
--- the entries of the versions of one key, or a branch in a cell, with its bit and the tries of the keys in which that is 0 and 1
+-- the entries of the versions of one key, the first and the others; or a branch in a cell, with its bit and the tries of the keys in which that is 0 and 1
 pub data Trie : Type 0 where
-  Entries : List (Placed CellRef) → Trie
+  Entries : Placed CellRef → List (Placed CellRef) → Trie
   Parted : ℕ → ℕ → Trie → Trie → Trie
 
 -- the cell is a branch at the bit, and leads to its two sides
@@ -30,9 +30,9 @@ abbrev pub IsWritten : Cell → Held → List ℕ → Type 0
 IsWritten cell (Branch bit) links = IsBranchCell cell bit links
 IsWritten cell (Entry version) links = IsEntry cell version links
 
--- where a trie begins, 0 where it has no node
+-- where a trie begins
 abbrev pub root : Trie → ℕ
-root (Entries chain) = start chain 0
+root (Entries p ps) = p.number
 root (Parted n bit zeros ones) = n
 
 -- the nodes of entries, and of a trie
@@ -41,13 +41,13 @@ entry_nodes [] = []
 entry_nodes (p ∷ ps) = record { number = p.number; element = Entry p.element; links = start ps 0 ∷ [] } ∷ entry_nodes ps
 
 abbrev pub trie_nodes : Trie → List (Node Held)
-trie_nodes (Entries chain) = entry_nodes chain
+trie_nodes (Entries p ps) = entry_nodes (p ∷ ps)
 trie_nodes (Parted n bit zeros ones) =
     record { number = n; element = Branch bit; links = root zeros ∷ root ones ∷ [] } ∷ (trie_nodes zeros ++ trie_nodes ones)
 
 -- the versions of a trie
 abbrev pub versions : Trie → List CellRef
-versions (Entries chain) = elements chain
+versions (Entries p ps) = p.element ∷ elements ps
 versions (Parted n bit zeros ones) = versions zeros ++ versions ones
 
 -- an index without versions has no trie

@@ -1,36 +1,31 @@
 -- What a walk down the tree finds.
-use Rattle.std.specs.Prelude.{◌≡◌, ◌≤◌, ◌<◌, ◌++◌, ℕ, List, [], ◌∷◌, Bool, true, false, cond, Contains}
+use Rattle.std.specs.Prelude.{◌≡◌, ◌≤◌, ◌<◌, ◌++◌, ℕ, List, [], ◌∷◌, Option, Some, Bool, false, cond}
 use Rattle.rdb_pages.specs.declared.cell.CellRef.{CellRef}
 use Rattle.rdb_cells.specs.Images.{Image}
-use Rattle.rdb_cells.specs.Keys.{Meaning, says}
-use Rattle.rdb_cells.specs.Links.{IsAmong, Placed, numbers, start, StandApart}
+use Rattle.rdb_cells.specs.Links.{IsAmong, numbers, StandApart}
 use Rattle.rdb_cells.specs.References.{IsPageCell}
 use Rattle.rdb_patricia.specs.declared.walk.Spot.{Spot}
-use Rattle.rdb_patricia.specs.declared.walk.Found.{Found}
-use Rattle.rdb_patricia.specs.Bits.{text_at, HasTextKey}
-use Rattle.rdb_patricia.specs.Shape.{IsShaped}
-use Rattle.rdb_patricia.specs.Trie.{Trie, Entries, Parted, IsWritten, root, trie_nodes, versions}
+use Rattle.rdb_patricia.specs.Trie.{Trie, Entries, Parted, IsWritten, root, root_of, nodes_of, versions_of}
 
--- from this number on the trie stands in page cells
-pub record IsPart (image : Image) (first : ℕ) (trie : Trie) : Type 0 where
-  pub begins : first ≡ root trie
-  pub apart : StandApart IsWritten image (trie_nodes trie)
-  pub paged : (n : ℕ) → IsAmong (numbers (trie_nodes trie)) n → IsPageCell n
+-- from this number on the tree stands in page cells
+pub record IsPart (image : Image) (first : ℕ) (tree : Option Trie) : Type 0 where
+  pub begins : first ≡ root_of tree
+  pub apart : StandApart IsWritten image (nodes_of tree)
+  pub paged : (n : ℕ) → IsAmong (numbers (nodes_of tree)) n → IsPageCell n
 
 abbrev pub HasPart : Image → ℕ → Type 0
-HasPart image first = (trie : Trie) × IsPart image first trie
+HasPart image first = (tree : Option Trie) × IsPart image first tree
 
--- whatever trie stands from this number on, this holds
-abbrev pub WhateverPart : Image → ℕ → (Trie → Type 0) → Type 0
-WhateverPart image first Holds = (trie : Trie) → IsPart image first trie → Holds trie
+-- some trie stands from this number on; and whatever trie does, this holds
+abbrev pub HasTrie : Image → ℕ → Type 0
+HasTrie image first = (trie : Trie) × IsPart image first (Some trie)
 
--- the trie has its shape by the keys, and each of its versions has a text as its key
-pub record IsKeyed (keys : Meaning) (image : Image) (trie : Trie) : Type 0 where
-  pub shaped : IsShaped (text_at (says keys image)) trie
-  pub texts : (r : CellRef) → Contains (versions trie) r → HasTextKey (says keys image) r
+abbrev pub WhateverTrie : Image → ℕ → (Trie → Type 0) → Type 0
+WhateverTrie image first Holds = (trie : Trie) → IsPart image first (Some trie) → Holds trie
 
-abbrev pub HasKeyedPart : Meaning → Image → ℕ → Type 0
-HasKeyedPart keys image first = (trie : Trie) × IsPart image first trie × IsKeyed keys image trie
+-- the versions below this number came to the list
+abbrev pub ListsBelow : Image → ℕ → List CellRef → List CellRef → Type 0
+ListsBelow image first before after = (tree : Option Trie) → IsPart image first tree → after ≡ before ++ versions_of tree
 
 -- a turn on the way down: at a branch in a cell, with its bit, to the side of 1 or of 0, past the other one
 pub record Turn : Type 0 where
@@ -51,7 +46,7 @@ Follows bits limit (t ∷ ts) = (t.bit < limit) × (t.is_one ≡ bits t.bit) × 
 
 -- the trie has no branch at its root with a bit below the limit
 abbrev pub StopsAt : ℕ → Trie → Type 0
-StopsAt limit (Entries chain) = Unit {0}
+StopsAt limit (Entries p ps) = Unit {0}
 StopsAt limit (Parted n bit zeros ones) = limit ≤ bit
 
 -- the cell of the last turn, 0 where there is none, and its side

@@ -4,6 +4,7 @@
 
 mod bits;
 mod how;
+mod laws;
 mod patricia;
 #[cfg(test)]
 mod spelled;
@@ -12,4 +13,5 @@ mod tests;
 mod walk;
 
 pub use how::How;
+pub use laws::patricia_is_an_index;
 pub use patricia::Patricia;

@@ -5,7 +5,7 @@
 //! | the index head  | the first cell of the tree, none where it lists nothing                      |
 //! | a branch        | its two sides: the keys in which its bit is 0, and those in which it is 1   |
 //! | an entry        | its version, and the next entry of the same key                             |
-ghost use Rattle.std.specs.Prelude.{◌≡◌, ◌+◌, ◌≤◌, length, IfOk};
+ghost use Rattle.std.specs.Prelude.{◌≡◌, ◌+◌, ◌≤◌, length, IfOk, cond};
 ghost use Rattle.rdb_cells.specs.Index.{LacksVersion, HasVersion, Puts, Removes, PlansOnlyOwn, IsStanding, IsListing};
 ghost use Rattle.rdb_cells.specs.Keys.{says, SameVersionCells};
 ghost use Rattle.rdb_cells.specs.Parts.{patricia_part};
@@ -232,7 +232,7 @@ const HEAD: Spot = Spot {
 
 /// Returns the branch with another cell on a side.
 fn turned(branch: PatriciaBranch, one_side: bool, to: CellRef) -> PatriciaBranch
-    ensures { result ≡ (if one_side then record branch { one_side = to } else record branch { zero_side = to }) }
+    ensures { result ≡ cond one_side (record branch { one_side = to }) (record branch { zero_side = to }) }
 {
     let PatriciaBranch {
         bit,

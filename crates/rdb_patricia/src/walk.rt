@@ -1,11 +1,10 @@
 //! Walks down the tree and along the entries of a key. They read cells alone.
-ghost use Rattle.std.specs.Prelude.{◌≡◌, ◌++◌, OnOk};
+ghost use Rattle.std.specs.Prelude.{◌≡◌, OnOk, cond};
 ghost use Rattle.rdb_cells.specs.Keys.{says};
 ghost use Rattle.rdb_cells.specs.PatriciaFormat.{branch_in, patricia_entry_in};
 ghost use Rattle.rdb_cells.specs.Words.{IsOfKind};
 ghost use Rattle.rdb_patricia.specs.Bits.{bit_at, text_at, HasTextKey};
-ghost use Rattle.rdb_patricia.specs.Trie.{versions};
-ghost use Rattle.rdb_patricia.specs.Walks.{HasPart, WhateverPart, HasKeyedPart, IsReached};
+ghost use Rattle.rdb_patricia.specs.Walks.{HasPart, HasTrie, WhateverTrie, ListsBelow, IsReached};
 
 use crate::bits::{BITS_OF_BYTE, key_bit, text_bit};
 use rdb_base::list::NoMemory;
@@ -49,7 +48,7 @@ pub fn node_in(cell: &Cell) -> Node
 
 /// Returns the side of a branch.
 pub fn side(branch: &PatriciaBranch, one_side: bool) -> CellRef
-    ensures { result ≡ (if one_side then branch.now.one_side else branch.now.zero_side) }
+    ensures { result ≡ cond one_side branch.now.one_side branch.now.zero_side }
 {
     if one_side {
         branch.one_side
@@ -61,8 +60,8 @@ pub fn side(branch: &PatriciaBranch, one_side: bool) -> CellRef
 /// Goes down from the root by the bits of a text, past the branches of bits below the limit. The cost grows with the number
 /// of these, of which there is at most one for each bit.
 pub fn down_by_text<C: Cells>(cells: &C, root: CellRef, text: &str, limit: u32) -> Spot
-    requires { HasPart (C.image cells.now) root.number }
-    ensures { WhateverPart (C.image cells.now) root.number (λ trie. IsReached (bit_at text.now) limit trie result) }
+    requires { HasTrie (C.image cells.now) root.number }
+    ensures { WhateverTrie (C.image cells.now) root.number (λ trie. IsReached (bit_at text.now) limit trie result) }
 {
     let mut spot = Spot {
         parent: NONE,
@@ -95,9 +94,9 @@ pub fn down_by_key<C: Cells, K: Keys>(
     version: CellRef,
     limit: u32,
 ) -> Spot
-    requires part { HasPart (C.image cells.now) root.number }
+    requires part { HasTrie (C.image cells.now) root.number }
     requires version { HasTextKey (says (K.meaning keys.now) (C.image cells.now)) version }
-    ensures { WhateverPart (C.image cells.now) root.number (λ trie.
+    ensures { WhateverTrie (C.image cells.now) root.number (λ trie.
         IsReached (bit_at (text_at (says (K.meaning keys.now) (C.image cells.now)) version)) limit trie result) }
 {
     let mut spot = Spot {
@@ -125,7 +124,7 @@ pub fn down_by_key<C: Cells, K: Keys>(
 /// Returns the entries of the longest key that ends on the way down by a text, above the limit, `NONE` where there is none.
 /// A key ends there where its side of a branch is 0 and the branch asks for a byte that the text has.
 pub fn last_end<C: Cells>(cells: &C, root: CellRef, text: &str, limit: u32) -> CellRef
-    requires { HasPart (C.image cells.now) root.number }
+    requires { HasTrie (C.image cells.now) root.number }
 {
     let mut last = NONE;
     let mut at = root;
@@ -173,7 +172,7 @@ pub fn list<C: Cells>(
     refs: &mut Refs,
 ) -> Result<(), NoMemory>
     requires { HasPart (C.image cells.now) first.number }
-    ensures { OnOk result (WhateverPart (C.image cells.now) first.number (λ trie. refs.new ≡ refs.old ++ versions trie)) }
+    ensures { OnOk result (ListsBelow (C.image cells.now) first.number refs.old refs.new) }
 {
     let mut later = Vec::new(alloc);
     let mut at = first;
