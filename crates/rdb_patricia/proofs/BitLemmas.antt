@@ -37,7 +37,7 @@ low_bit x y same = by_bits (x % 2) (y % 2) (omega arith) (omega arith) same
 byte_of_bits : (x : ℕ) → x < 256 → x ≡ 128 * (x / 128 % 2) + 64 * (x / 64 % 2) + 32 * (x / 32 % 2) + 16 * (x / 16 % 2) + 8 * (x / 8 % 2) + 4 * (x / 4 % 2) + 2 * (x / 2 % 2) + x % 2
 byte_of_bits x small = omega arith
 
-same_bytes : (x y : ℕ) → x < 256 → y < 256 → ((n : ℕ) → n < 9 → bit_in (Some x) n ≡ bit_in (Some y) n) → x ≡ y
+pub same_bytes : (x y : ℕ) → x < 256 → y < 256 → ((n : ℕ) → n < 9 → bit_in (Some x) n ≡ bit_in (Some y) n) → x ≡ y
 same_bytes x y x_small y_small same =
     let b7 : x / 128 % 2 ≡ y / 128 % 2 = low_bit (x / 128) (y / 128) (same 1 (omega arith)) in
     let b6 : x / 64 % 2 ≡ y / 64 % 2 = low_bit (x / 64) (y / 64) (same 2 (omega arith)) in
@@ -50,14 +50,3 @@ same_bytes x y x_small y_small same =
     let whole = byte_of_bits x x_small in
     let other = byte_of_bits y y_small in
     omega arith
-
-abbrev pub IsByte : Option ℕ → Type 0
-IsByte None = Unit {0}
-IsByte (Some x) = x < 256
-
--- bytes that may be there, with the same nine bits
-pub same_nine : (a b : Option ℕ) → IsByte a → IsByte b → ((n : ℕ) → n < 9 → bit_in a n ≡ bit_in b n) → a ≡ b
-same_nine None None a_small b_small same = refl
-same_nine None (Some y) a_small b_small same = absurd (false≢true (same 0 (omega arith)))
-same_nine (Some x) None a_small b_small same = absurd (false≢true (sym (same 0 (omega arith))))
-same_nine (Some x) (Some y) a_small b_small same = ap (λ (n : ℕ). Some n) (same_bytes x y a_small b_small same)

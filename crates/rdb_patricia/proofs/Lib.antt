@@ -1,3 +1,4 @@
 pub mod BitLemmas
 pub mod PartingLemmas
 pub mod ListingLemmas
+pub mod WayLemmas

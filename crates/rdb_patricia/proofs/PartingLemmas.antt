@@ -59,3 +59,21 @@ ended (x ∷ xs) (y ∷ ys) (suc n) along a_none b_none =
     let first : x ≡ y = ap (λ (o : Option ℕ). option_map_or (λ k. k) o x) (along.same 0 (omega arith)) in
     let rest = ended xs ys n (record { same = λ m below. along.same (suc m) (omega arith); within = (let within = along.within in omega arith) }) a_none b_none in
     ap₂ (λ (k : ℕ) (ks : List ℕ). k ∷ ks) first rest
+
+-- the same by the bytes that were read at the place
+module _ (a b : List ℕ) (place : ℕ) (x y : Option ℕ) (x_is : x ≡ slice_get a place) (y_is : y ≡ slice_get b place) (along : AreAlong a b place) where
+  pub parted_by : (n : ℕ) → n < 9 → bit_in x n ≢ bit_in y n → ((m : ℕ) → m < n → bit_in x m ≡ bit_in y m) → IsFirstDifference (9 * place + n) a b
+  parted_by n below differ alike =
+      parted a b place n along below
+      (λ same. differ (ap (λ (o : Option ℕ). bit_in o n) x_is ∙ same ∙ sym (ap (λ (o : Option ℕ). bit_in o n) y_is)))
+      (λ m under. sym (ap (λ (o : Option ℕ). bit_in o m) x_is) ∙ alike m under ∙ ap (λ (o : Option ℕ). bit_in o m) y_is)
+
+  pub ended_by : x ≡ y → x ≡ None → a ≡ b
+  ended_by same none = ended a b place along (sym x_is ∙ none) (sym y_is ∙ sym same ∙ none)
+
+  pub more_by : x ≡ y → x ≢ None → AreAlong a b (place + 1)
+  more_by same some = along_more a b place along (sym x_is ∙ same ∙ y_is) (λ none. some (x_is ∙ none))
+
+-- a key is no longer than a key may be
+pub too_long : (a b : List ℕ) (place : ℕ) → AreAlong a b place → length a ≤ 255 → 256 ≤ place → ⊥
+too_long a b place along short many = let within = along.within in omega arith

@@ -1,11 +1,16 @@
 -- What a walk down the tree finds.
-use Rattle.std.specs.Prelude.{◌≡◌, ◌≤◌, ◌<◌, ◌++◌, ℕ, List, [], ◌∷◌, Option, Some, Bool, false, cond}
+use Rattle.std.specs.Prelude.{◌≡◌, ◌≢◌, ◌≤◌, ◌<◌, ◌++◌, ℕ, List, [], ◌∷◌, Option, Some, Bool, false, cond}
 use Rattle.rdb_pages.specs.declared.cell.CellRef.{CellRef}
 use Rattle.rdb_cells.specs.Images.{Image}
 use Rattle.rdb_cells.specs.Links.{IsAmong, numbers, StandApart}
+use Rattle.rdb_cells.specs.PlainList.{LeadsTo}
 use Rattle.rdb_cells.specs.References.{IsPageCell}
 use Rattle.rdb_patricia.specs.declared.walk.Spot.{Spot}
 use Rattle.rdb_patricia.specs.Trie.{Trie, Entries, Parted, IsWritten, root, root_of, nodes_of, versions_of}
+
+-- the head of an index stands there
+abbrev pub HasHead : Image → ℕ → Type 0
+HasHead image head = (first : CellRef) × LeadsTo image head first
 
 -- from this number on the tree stands in page cells
 pub record IsPart (image : Image) (first : ℕ) (tree : Option Trie) : Type 0 where
@@ -68,3 +73,8 @@ pub record IsReached (bits : ℕ → Bool) (limit : ℕ) (trie : Trie) (spot : S
   pub stops : StopsAt limit part
   pub parent : spot.parent.number ≡ parent_of turns
   pub side : spot.one_side ≡ side_of turns
+
+-- the next cell is this one, or else the last of those that wait, which goes from them
+pub data IsNext (at : CellRef) (waiting : List CellRef) (next : CellRef) (now : List CellRef) : Type 0 where
+  Here : (at.number ≢ 0) → next ≡ at → now ≡ waiting → IsNext at waiting next now
+  Later : at.number ≡ 0 → waiting ≡ now ++ next ∷ [] → IsNext at waiting next now

@@ -4,7 +4,7 @@
 //! |----------------|-------------------------------------------------|
 //! | 9j             | 1 where the text has a byte j, and 0 at its end |
 //! | 9j + 1 to + 8  | the bits of byte j, the highest first           |
-ghost use Rattle.std.specs.Prelude.{◌≡◌, ◌≢◌, ◌<◌, ℕ, IfSome, slice_get};
+ghost use Rattle.std.specs.Prelude.{◌≡◌, ◌≢◌, ◌<◌, ℕ, Some, IfSome, slice_get};
 ghost use Rattle.rdb_cells.specs.Keys.{says};
 ghost use Rattle.rdb_patricia.specs.Bits.{bit_in, bit_at, bits_of_byte, all_bits, text_at, HasTextKey, IsParting};
 
@@ -57,19 +57,32 @@ pub fn key_bit<C: Cells, K: Keys>(cells: &C, keys: &K, version: CellRef, number:
     )
 }
 
-/// Returns the first of the nine bits in which two bytes differ that aren't the same.
+/// Returns the first of the nine bits in which two bytes differ.
+fn first_bit(left: u8, right: u8) -> u32
+    requires { left ≢ right }
+    ensures place { result < bits_of_byte }
+    ensures differ { bit_in (Some left) result ≢ bit_in (Some right) result }
+    ensures alike { (n : ℕ) → n < result → bit_in (Some left) n ≡ bit_in (Some right) n }
+{
+    for place in 0..BITS_OF_BYTE {
+        if bit_in(Some(left), place) != bit_in(Some(right), place) {
+            return place;
+        }
+    }
+    unreachable!()
+}
+
+/// Returns the first of the nine bits in which two bytes differ that may be there and aren't the same.
 fn first_place(left: Option<u8>, right: Option<u8>) -> u32
     requires { left ≢ right }
     ensures place { result < bits_of_byte }
     ensures differ { bit_in left result ≢ bit_in right result }
     ensures alike { (n : ℕ) → n < result → bit_in left n ≡ bit_in right n }
 {
-    for place in 0..BITS_OF_BYTE {
-        if bit_in(left, place) != bit_in(right, place) {
-            return place;
-        }
+    match (left, right) {
+        (Some(left), Some(right)) => first_bit(left, right),
+        _ => 0,
     }
-    unreachable!()
 }
 
 /// Returns the number of the first bit in which the keys of two versions differ, `None` where they are the same. The cost

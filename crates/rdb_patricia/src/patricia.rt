@@ -9,11 +9,13 @@ ghost use Rattle.std.specs.Prelude.{◌≡◌, ◌+◌, ◌≤◌, length, IfOk,
 ghost use Rattle.rdb_cells.specs.Index.{LacksVersion, HasVersion, Puts, Removes, PlansOnlyOwn, IsStanding, IsListing};
 ghost use Rattle.rdb_cells.specs.Keys.{says, SameVersionCells};
 ghost use Rattle.rdb_cells.specs.Parts.{patricia_part};
+ghost use Rattle.rdb_cells.specs.PlainList.{LeadsTo};
 ghost use Rattle.rdb_cells.specs.References.{index_head_ref, max_classes, max_indexes};
 ghost use Rattle.rdb_cells.specs.Work.{work, reading, HasLeft, TakesAtMost, TakesNone};
 ghost use Rattle.rdb_patricia.specs.Bits.{HasTextKey};
 ghost use Rattle.rdb_patricia.specs.Lookup.{StandsBy, IsFound};
 ghost use Rattle.rdb_patricia.specs.Shape.{patricia_nature};
+ghost use Rattle.rdb_patricia.specs.Walks.{HasHead};
 
 use crate::bits::{ALL_BITS, BITS_OF_BYTE, LONGEST_KEY, key_bit, parting_of_keys, parting_of_text};
 use crate::how::How;
@@ -156,7 +158,10 @@ impl Patricia {
     }
 
     /// Returns the first cell of the tree, `NONE` where it lists nothing.
-    fn root<C: Cells>(&self, cells: &C) -> CellRef {
+    fn root<C: Cells>(&self, cells: &C) -> CellRef
+        requires { HasHead (C.image cells.now) self.now.head.number }
+        ensures { LeadsTo (C.image cells.now) self.now.head.number result }
+    {
         IndexHead::root_in(cells.read(self.head), 0)
     }
 

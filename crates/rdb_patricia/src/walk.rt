@@ -1,10 +1,10 @@
 //! Walks down the tree and along the entries of a key. They read cells alone.
-ghost use Rattle.std.specs.Prelude.{◌≡◌, OnOk, cond};
+ghost use Rattle.std.specs.Prelude.{◌≡◌, ◌↔◌, [], OnOk, IfNone, IfSome, IsTrue, cond};
 ghost use Rattle.rdb_cells.specs.Keys.{says};
 ghost use Rattle.rdb_cells.specs.PatriciaFormat.{branch_in, patricia_entry_in};
 ghost use Rattle.rdb_cells.specs.Words.{IsOfKind};
 ghost use Rattle.rdb_patricia.specs.Bits.{bit_at, text_at, HasTextKey};
-ghost use Rattle.rdb_patricia.specs.Walks.{HasPart, HasTrie, WhateverTrie, ListsBelow, IsReached};
+ghost use Rattle.rdb_patricia.specs.Walks.{HasPart, HasTrie, WhateverTrie, ListsBelow, IsNext, IsReached};
 
 use crate::bits::{BITS_OF_BYTE, key_bit, text_bit};
 use rdb_base::list::NoMemory;
@@ -35,14 +35,25 @@ pub struct Found {
     pub next: CellRef,
 }
 
+/// Returns whether the cell is a branch.
+fn is_branch(cell: &Cell) -> bool
+    ensures { IsTrue result ↔ IsOfKind cell.now Kind.PatriciaBranch }
+{
+    match Kind::of(cell) {
+        Some(kind) => kind.number() == Kind::PatriciaBranch.number(),
+        None => false,
+    }
+}
+
 /// Reads a cell of the tree.
 pub fn node_in(cell: &Cell) -> Node
     ensures branch { IsOfKind cell.now Kind.PatriciaBranch → result ≡ Node.Branch (branch_in cell.now) }
     ensures entry { IsOfKind cell.now Kind.PatriciaEntry → result ≡ Node.Entry (patricia_entry_in cell.now) }
 {
-    match Kind::of(cell) {
-        Some(Kind::PatriciaBranch) => Node::Branch(PatriciaBranch::of_cell(cell)),
-        _ => Node::Entry(PatriciaEntry::of_cell(cell)),
+    if is_branch(cell) {
+        Node::Branch(PatriciaBranch::of_cell(cell))
+    } else {
+        Node::Entry(PatriciaEntry::of_cell(cell))
     }
 }
 
@@ -163,6 +174,18 @@ pub fn find<C: Cells>(cells: &C, first: CellRef, version: CellRef) -> Found {
     unreachable!()
 }
 
+/// Returns the cell to go on with: this one, or else the last of the later ones, which is taken from them.
+fn next(at: CellRef, later: &mut Vec<CellRef>) -> Option<CellRef>
+    ensures none { IfNone result ((at.number ≡ 0) × (later.old.items ≡ [])) }
+    ensures some { IfSome result (λ r. IsNext at later.old.items r later.new.items) }
+{
+    if at == NONE {
+        later.pop()
+    } else {
+        Some(at)
+    }
+}
+
 /// Appends the versions below `first`, by ascending keys, and those of one key in the order of their entries. The cost grows
 /// with their number. The only error is want of memory.
 pub fn list<C: Cells>(
@@ -177,13 +200,10 @@ pub fn list<C: Cells>(
     let mut later = Vec::new(alloc);
     let mut at = first;
     for _ in 0..LAST_PAGE_CELL {
-        if at == NONE {
-            let Some(next) = later.pop() else {
-                return Ok(());
-            };
-            at = next;
-        }
-        match node_in(cells.read(at)) {
+        let Some(now) = next(at, &mut later) else {
+            return Ok(());
+        };
+        match node_in(cells.read(now)) {
             Node::Branch(branch) => {
                 later.push(branch.one_side)?;
                 at = branch.zero_side;

@@ -1,6 +1,0 @@
-use Rattle.std.proofs.Common.{◌≡◌, ◌<◌, ℕ}
-use Rattle.rdb_patricia.specs.Bits.{bit_in}
-use Rattle.rdb_patricia.proofs.bits.first_place.Given as goal
-
-abbrev pub invariant-loop-place : goal.invariant-loop-place
-invariant-loop-place l = (n : ℕ) → n < l.place → bit_in l.left n ≡ bit_in l.right n
