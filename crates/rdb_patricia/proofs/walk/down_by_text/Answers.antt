@@ -22,4 +22,5 @@ pub loop-preserved : goal.loop-preserved
 loop-preserved g c = λ trie part.
     let reads : IsRead c.read.result.now c.node_in.result = record { branch = c.node_in.ensures.branch; entry = c.node_in.ensures.entry } in
     let low : c.in-Branch.branch.bit < c.args.limit = omega arith in
-    ?
+    way_more (bit_at c.args.text.now) c.args.limit (g.C.Cells.image c.args.cells.now) trie c.loop.counter c.loop.spot.parent c.loop.spot.one_side c.loop.spot.at (c.loop.invariant trie part)
+    c.read.result.now c.read.ensures c.node_in.result reads c.in-Branch.branch c.in-Branch.is low c.text_bit-one_side.result c.text_bit-one_side.ensures c.side.result c.side.ensures
