@@ -2,3 +2,5 @@ pub mod BitLemmas
 pub mod PartingLemmas
 pub mod ListingLemmas
 pub mod WayLemmas
+pub mod PlugLemmas
+

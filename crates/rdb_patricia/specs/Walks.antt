@@ -1,12 +1,18 @@
 -- What a walk down the tree finds.
-use Rattle.std.specs.Prelude.{◌≡◌, ◌≢◌, ◌≤◌, ◌<◌, ◌++◌, ℕ, List, [], ◌∷◌, Option, Some, Bool, false, cond}
+use Rattle.std.specs.Prelude.{◌≡◌, ◌≢◌, ◌≤◌, ◌<◌, ◌++◌, ℕ, List, [], ◌∷◌, Option, Some, Bool, false, cond, filter, Contains}
 use Rattle.rdb_pages.specs.declared.cell.CellRef.{CellRef}
 use Rattle.rdb_cells.specs.Images.{Image}
-use Rattle.rdb_cells.specs.Links.{IsAmong, numbers, StandApart}
+use Rattle.rdb_cells.specs.Keys.{Meaning, Sayings, says}
+use Rattle.rdb_cells.specs.Links.{IsAmong, Placed, numbers, StandApart}
 use Rattle.rdb_cells.specs.PlainList.{LeadsTo}
 use Rattle.rdb_cells.specs.References.{IsPageCell}
+use Rattle.rdb_patricia.specs.declared.how.How.{How}
+use Rattle.rdb_patricia.specs.declared.walk.Leaf.{Leaf}
 use Rattle.rdb_patricia.specs.declared.walk.Spot.{Spot}
-use Rattle.rdb_patricia.specs.Trie.{Trie, Entries, Parted, IsWritten, root, root_of, nodes_of, versions_of}
+use Rattle.rdb_patricia.specs.Bits.{all_bits, text_at, HasTextKey}
+use Rattle.rdb_patricia.specs.Lookup.{matches}
+use Rattle.rdb_patricia.specs.Shape.{Texts, IsShaped}
+use Rattle.rdb_patricia.specs.Trie.{Trie, Entries, Parted, IsWritten, root, root_of, nodes_of, versions, versions_of}
 
 -- the head of an index stands there
 abbrev pub HasHead : Image → ℕ → Type 0
@@ -78,3 +84,35 @@ pub record IsReached (bits : ℕ → Bool) (limit : ℕ) (trie : Trie) (spot : S
 pub data IsNext (at : CellRef) (waiting : List CellRef) (next : CellRef) (now : List CellRef) : Type 0 where
   Here : (at.number ≢ 0) → next ≡ at → now ≡ waiting → IsNext at waiting next now
   Later : at.number ≡ 0 → waiting ≡ now ++ next ∷ [] → IsNext at waiting next now
+
+-- by these keys the trie has its shape, and the keys of its versions are texts
+pub record IsKeyed (said : Sayings) (trie : Trie) : Type 0 where
+  pub shaped : IsShaped (text_at said) trie
+  pub texts : (r : CellRef) → Contains (versions trie) r → HasTextKey said r
+
+-- such a trie stands from this number on, by some keys or by these
+abbrev pub HasShapedTrie : Image → ℕ → Type 0
+HasShapedTrie image first = (said : Sayings) × (trie : Trie) × IsPart image first (Some trie) × IsKeyed said trie
+
+abbrev pub HasKeyedTrie : Meaning → Image → ℕ → Type 0
+HasKeyedTrie keys image first = (trie : Trie) × IsPart image first (Some trie) × IsKeyed (says keys image) trie
+
+-- whatever such trie stands there by the keys, this holds
+abbrev pub WhateverKeyed : Meaning → Image → ℕ → (Trie → Type 0) → Type 0
+WhateverKeyed keys image first Holds = (trie : Trie) → IsPart image first (Some trie) → IsKeyed (says keys image) trie → Holds trie
+
+-- the entries to which these bits lead
+pub record IsLeaf (bits : ℕ → Bool) (trie : Trie) (leaf : Leaf) : Type 0 where
+  pub turns : List Turn
+  pub first : Placed CellRef
+  pub others : List (Placed CellRef)
+  pub is : trie ≡ plug turns (Entries first others)
+  pub follows : Follows bits all_bits turns
+  pub at : leaf.at.number ≡ first.number
+  pub of_version : leaf.version ≡ first.element
+
+-- from this number on those versions of the trie stand that match, and no others
+pub record GivesPart (image : Image) (how : How) (text : List ℕ) (key : Texts) (trie : Trie) (number : ℕ) : Type 0 where
+  pub part : Option Trie
+  pub stands : IsPart image number part
+  pub these : filter (matches how text key (versions trie)) (versions trie) ≡ versions_of part

@@ -12,14 +12,14 @@ ghost use Rattle.rdb_cells.specs.Parts.{patricia_part};
 ghost use Rattle.rdb_cells.specs.PlainList.{LeadsTo};
 ghost use Rattle.rdb_cells.specs.References.{index_head_ref, max_classes, max_indexes};
 ghost use Rattle.rdb_cells.specs.Work.{work, reading, HasLeft, TakesAtMost, TakesNone};
-ghost use Rattle.rdb_patricia.specs.Bits.{HasTextKey};
+ghost use Rattle.rdb_patricia.specs.Bits.{text_at, HasTextKey};
 ghost use Rattle.rdb_patricia.specs.Lookup.{StandsBy, IsFound};
 ghost use Rattle.rdb_patricia.specs.Shape.{patricia_nature};
-ghost use Rattle.rdb_patricia.specs.Walks.{HasHead};
+ghost use Rattle.rdb_patricia.specs.Walks.{HasHead, HasKeyedTrie, WhateverKeyed, GivesPart};
 
 use crate::bits::{ALL_BITS, BITS_OF_BYTE, LONGEST_KEY, key_bit, parting_of_keys, parting_of_text};
 use crate::how::How;
-use crate::walk::{Spot, down_by_key, down_by_text, find, last_end, list, side};
+use crate::walk::{Spot, down_by_key, down_by_text, find, last_end, leaf_by_text, list, side};
 use rdb_base::list::{List, NoMemory};
 use rdb_cells::{
     Cells, IndexHead, Keys, NONE, Overlay, PatriciaBranch, PatriciaEntry, Refs, index_head,
@@ -259,43 +259,47 @@ fn turned(branch: PatriciaBranch, one_side: bool, to: CellRef) -> PatriciaBranch
     }
 }
 
-/// Returns the first version below a spot where a text leads.
-fn version_near<C: Cells>(cells: &C, root: CellRef, text: &str) -> CellRef {
-    let spot = down_by_text(cells, root, text, ALL_BITS);
-    PatriciaEntry::of_cell(cells.read(spot.at)).version
-}
-
 /// Returns the entries of the key that is the text, `NONE` where there is none.
-fn exact<C: Cells, K: Keys>(cells: &C, keys: &K, root: CellRef, text: &str) -> CellRef {
-    let spot = down_by_text(cells, root, text, ALL_BITS);
-    let near = PatriciaEntry::of_cell(cells.read(spot.at)).version;
-    match parting_of_text(cells, keys, near, text) {
-        None => spot.at,
+fn exact<C: Cells, K: Keys>(cells: &C, keys: &K, root: CellRef, text: &str) -> CellRef
+    requires { HasKeyedTrie (K.meaning keys.now) (C.image cells.now) root.number }
+    ensures { WhateverKeyed (K.meaning keys.now) (C.image cells.now) root.number (λ trie. GivesPart (C.image cells.now)
+        How.Exact text.now (text_at (says (K.meaning keys.now) (C.image cells.now))) trie result.number) }
+{
+    let leaf = leaf_by_text(cells, root, text);
+    match parting_of_text(cells, keys, leaf.version, text) {
+        None => leaf.at,
         Some(_) => NONE,
     }
 }
 
 /// Returns the entries of the longest key with which the text begins, `NONE` where there is none. The key to which the text
 /// leads shows how far the tree goes along with it: keys that end there are beginnings of the text, and those below aren't.
-fn longest<C: Cells, K: Keys>(cells: &C, keys: &K, root: CellRef, text: &str) -> CellRef {
-    let spot = down_by_text(cells, root, text, ALL_BITS);
-    let near = PatriciaEntry::of_cell(cells.read(spot.at)).version;
-    match parting_of_text(cells, keys, near, text) {
-        None => spot.at,
-        Some(bit) if bit % BITS_OF_BYTE == 0 && !key_bit(cells, keys, near, bit) => spot.at,
+fn longest<C: Cells, K: Keys>(cells: &C, keys: &K, root: CellRef, text: &str) -> CellRef
+    requires { HasKeyedTrie (K.meaning keys.now) (C.image cells.now) root.number }
+    ensures { WhateverKeyed (K.meaning keys.now) (C.image cells.now) root.number (λ trie. GivesPart (C.image cells.now)
+        How.Longest text.now (text_at (says (K.meaning keys.now) (C.image cells.now))) trie result.number) }
+{
+    let leaf = leaf_by_text(cells, root, text);
+    match parting_of_text(cells, keys, leaf.version, text) {
+        None => leaf.at,
+        Some(bit) if bit % BITS_OF_BYTE == 0 && !key_bit(cells, keys, leaf.version, bit) => leaf.at,
         Some(bit) => last_end(cells, root, text, bit),
     }
 }
 
 /// Returns the part of the tree whose keys begin with the text, `NONE` where there is none.
-fn starting<C: Cells, K: Keys>(cells: &C, keys: &K, root: CellRef, text: &str) -> CellRef {
+fn starting<C: Cells, K: Keys>(cells: &C, keys: &K, root: CellRef, text: &str) -> CellRef
+    requires { HasKeyedTrie (K.meaning keys.now) (C.image cells.now) root.number }
+    ensures { WhateverKeyed (K.meaning keys.now) (C.image cells.now) root.number (λ trie. GivesPart (C.image cells.now)
+        How.Starting text.now (text_at (says (K.meaning keys.now) (C.image cells.now))) trie result.number) }
+{
     if text.len() > LONGEST_KEY as usize {
         return NONE;
     }
     let limit = BITS_OF_BYTE * text.len() as u32;
     let spot = down_by_text(cells, root, text, limit);
-    let near = version_near(cells, spot.at, text);
-    match parting_of_text(cells, keys, near, text) {
+    let leaf = leaf_by_text(cells, spot.at, text);
+    match parting_of_text(cells, keys, leaf.version, text) {
         Some(bit) if bit < limit => NONE,
         _ => spot.at,
     }

@@ -1,12 +1,13 @@
 //! Walks down the tree and along the entries of a key. They read cells alone.
 ghost use Rattle.std.specs.Prelude.{◌≡◌, ◌↔◌, [], OnOk, IfNone, IfSome, IsTrue, cond};
-ghost use Rattle.rdb_cells.specs.Keys.{says};
+ghost use Rattle.rdb_cells.specs.Keys.{Sayings, says};
 ghost use Rattle.rdb_cells.specs.PatriciaFormat.{branch_in, patricia_entry_in};
 ghost use Rattle.rdb_cells.specs.Words.{IsOfKind};
 ghost use Rattle.rdb_patricia.specs.Bits.{bit_at, text_at, HasTextKey};
 ghost use Rattle.rdb_patricia.specs.Walks.{HasPart, HasTrie, WhateverTrie, ListsBelow, IsNext, IsReached};
+ghost use Rattle.rdb_patricia.specs.Walks.{HasShapedTrie, IsKeyed, IsLeaf};
 
-use crate::bits::{BITS_OF_BYTE, key_bit, text_bit};
+use crate::bits::{ALL_BITS, BITS_OF_BYTE, key_bit, text_bit};
 use rdb_base::list::NoMemory;
 use rdb_cells::{Cells, Keys, Kind, LAST_PAGE_CELL, NONE, PatriciaBranch, PatriciaEntry, Refs};
 use rdb_pages::{Cell, CellRef};
@@ -25,6 +26,13 @@ pub struct Spot {
     pub parent: CellRef,
     pub one_side: bool,
     pub at: CellRef,
+}
+
+/// The first entry of a key: its cell and its version.
+#[derive(Clone, Copy)]
+pub struct Leaf {
+    pub at: CellRef,
+    pub version: CellRef,
 }
 
 /// Where a version's entry stands: its cell, and those of the entries before and after it, `NONE` where there is none.
@@ -94,6 +102,19 @@ pub fn down_by_text<C: Cells>(cells: &C, root: CellRef, text: &str, limit: u32) 
         };
     }
     unreachable!()
+}
+
+/// Returns the entries to which a text leads, whether they are of that key or not. The cost is that of `down_by_text`.
+pub fn leaf_by_text<C: Cells>(cells: &C, root: CellRef, text: &str) -> Leaf
+    requires { HasShapedTrie (C.image cells.now) root.number }
+    ensures { (said : Sayings) → WhateverTrie (C.image cells.now) root.number (λ trie.
+        IsKeyed said trie → IsLeaf (bit_at text.now) trie result) }
+{
+    let at = down_by_text(cells, root, text, ALL_BITS).at;
+    Leaf {
+        at,
+        version: PatriciaEntry::of_cell(cells.read(at)).version,
+    }
 }
 
 /// Goes down from the root by the bits of a version's key, past the branches of bits below the limit. The cost grows with the
