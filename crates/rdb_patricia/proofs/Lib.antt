@@ -4,3 +4,4 @@ pub mod ListingLemmas
 pub mod WayLemmas
 pub mod PlugLemmas
 
+pub mod ExactLemmas

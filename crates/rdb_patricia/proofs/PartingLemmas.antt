@@ -77,3 +77,12 @@ module _ (a b : List ℕ) (place : ℕ) (x y : Option ℕ) (x_is : x ≡ slice_g
 -- a key is no longer than a key may be
 pub too_long : (a b : List ℕ) (place : ℕ) → AreAlong a b place → length a ≤ 255 → 256 ≤ place → ⊥
 too_long a b place along short many = let within = along.within in omega arith
+
+-- where no parting was found the texts are the same, and elsewhere they aren't
+pub parting_none : (a b : List ℕ) (o : Option ℕ) → IsParting a b o → o ≡ None → a ≡ b
+parting_none a b o parting none = subst (IsParting a b) none parting
+
+pub parting_some : (a b : List ℕ) (o : Option ℕ) → IsParting a b o → (n : ℕ) → o ≡ Some n → a ≢ b
+parting_some a b o parting n some same =
+    let first : IsFirstDifference n a b = subst (IsParting a b) some parting in
+    first.differ (ap (λ (t : List ℕ). bit_at t n) same)
