@@ -86,3 +86,6 @@ pub parting_some : (a b : List ℕ) (o : Option ℕ) → IsParting a b o → (n 
 parting_some a b o parting n some same =
     let first : IsFirstDifference n a b = subst (IsParting a b) some parting in
     first.differ (ap (λ (t : List ℕ). bit_at t n) same)
+
+pub first_parting : (a b : List ℕ) (o : Option ℕ) → IsParting a b o → (n : ℕ) → o ≡ Some n → IsFirstDifference n a b
+first_parting a b o parting n some = subst (IsParting a b) some parting

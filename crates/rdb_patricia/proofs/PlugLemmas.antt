@@ -117,7 +117,7 @@ pub some_version : (trie : Trie) → (r : CellRef) × Contains (versions trie) r
 some_version (Entries p ps) = (p.element, contains_first p.element (elements ps))
 some_version (Parted n bit zeros ones) = let first = some_version zeros in (first.0, contains_front (versions zeros) (versions ones) first.0 first.1)
 
-none_past : (a : List ℕ) (n : ℕ) → length a ≤ n → slice_get a n ≡ None
+pub none_past : (a : List ℕ) (n : ℕ) → length a ≤ n → slice_get a n ≡ None
 none_past [] n past = refl
 none_past (x ∷ xs) zero past = absurd (omega arith)
 none_past (x ∷ xs) (suc n) past = none_past xs n (omega arith)

@@ -45,12 +45,13 @@ text_in (Some version) = option_map_or (λ text. text) (text_of version.key) []
 abbrev pub text_at : Sayings → CellRef → List ℕ
 text_at said r = text_in (said.version_of r.number)
 
--- the version's key is one text, which is no longer than a key may be
+-- the version's key is one text, of bytes, which is no longer than a key may be
 pub record HasTextKey (said : Sayings) (r : CellRef) : Type 0 where
   pub version : Version
   pub there : said.version_of r.number ≡ Some version
   pub is_text : IsSome (text_of version.key)
   pub short : length (text_at said r) ≤ longest_key
+  pub bytes : (place byte : ℕ) → slice_get (text_at said r) place ≡ Some byte → byte < 2 ^ 8
 
 -- the texts are the same, or this is the number of the first bit in which they differ
 abbrev pub IsParting : List ℕ → List ℕ → Option ℕ → Type 0

@@ -1,5 +1,5 @@
 -- A Patricia index meets the laws of an index. No tactic stands here.
-use Rattle.std.specs.Prelude.{◌≡◌, ◌≤◌, ◌*◌, ◌+◌, ◌++◌, ℕ, zero, suc, List, [], ◌∷◌, length, Option, Some, None, Contains, refl}
+use Rattle.std.specs.Prelude.{◌≡◌, ◌≤◌, ◌*◌, ◌+◌, ◌++◌, ℕ, zero, suc, List, [], ◌∷◌, length, slice_get, Option, Some, None, Contains, refl}
 use mathlib.Core.Logic.{inl, inr}
 use mathlib.Core.Path.{sym, ap, ap₂, subst, ◌∙◌}
 use native.Mathlib.Nat.{le_of_suc-le-suc, not-suc-le-zero, zero-lt-suc}
@@ -39,6 +39,7 @@ key_again said again r same key = record {
   there = same ∙ key.there;
   is_text = key.is_text;
   short = subst (λ (t : List ℕ). length t ≤ longest_key) (sym (text_again said again r same)) key.short;
+  bytes = λ place byte is. key.bytes place byte (ap (λ (t : List ℕ). slice_get t place) (sym (text_again said again r same)) ∙ is);
 }
 
 -- one of the first, or of the second, is one of both

@@ -300,7 +300,13 @@ fn starting<C: Cells, K: Keys>(cells: &C, keys: &K, root: CellRef, text: &str) -
     let spot = down_by_text(cells, root, text, limit);
     let leaf = leaf_by_text(cells, spot.at, text);
     match parting_of_text(cells, keys, leaf.version, text) {
-        Some(bit) if bit < limit => NONE,
-        _ => spot.at,
+        None => spot.at,
+        Some(bit) => {
+            if bit < limit {
+                NONE
+            } else {
+                spot.at
+            }
+        }
     }
 }
