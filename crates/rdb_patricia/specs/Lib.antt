@@ -4,4 +4,5 @@ pub mod Shape
 pub mod Lookup
 pub mod Walks
 pub mod Changes
+pub mod FewNodes
 pub mod PatriciaLaws

@@ -8,13 +8,14 @@ use Rattle.rdb_pages.specs.declared.cell.CellRef.{CellRef}
 use Rattle.rdb_cells.specs.declared.kind.Kind.TheVariants as kind
 use Rattle.rdb_cells.specs.HeadFormat.{index_head_cell, empty_index_head}
 use Rattle.rdb_cells.specs.Images.{Image}
-use Rattle.rdb_cells.specs.Index.{IsIndexNode, StartsEmpty, ListsOnce, HasIndexCells, RestsOnNodes}
+use Rattle.rdb_cells.specs.Index.{IsIndexNode, StartsEmpty, ListsOnce, HasIndexCells, HasFewNodes, RestsOnNodes}
 use Rattle.rdb_cells.specs.Keys.{Sayings, SaySame, Version, text_of}
 use Rattle.rdb_cells.specs.Links.{IsAmong, AreOnce, SameOn, Node, IsHeld, Placed, elements, numbers}
 use Rattle.rdb_cells.specs.LinkLaws.{still_apart, node_of}
 use Rattle.rdb_cells.specs.PlainLaws.{lists_again}
 use Rattle.rdb_cells.specs.Words.{no_ref}
 use Rattle.rdb_patricia.specs.Bits.{bit_at, AreAlikeBelow, text_at, text_in, HasTextKey, longest_key}
+use Rattle.rdb_patricia.specs.FewNodes.{tree_few}
 use Rattle.rdb_patricia.specs.Shape.{Texts, IsShaped, IsShapedTree, PartsAt, HaveKeyOf, patricia_nature}
 use Rattle.rdb_patricia.specs.Trie.{Held, Branch, Entry, Trie, Entries, Parted, IsWritten, nodes_of, versions, versions_of}
 
@@ -102,6 +103,11 @@ module _ (class head : ℕ) where
         subst (IsIndexNode image) node.1 (node_kind image node.0 node.2);
     once = subst AreOnce (sym is.nodes_are) is.stand.apart.once;
   }
+
+  pub patricia_has_few_nodes : HasFewNodes (patricia_nature class head)
+  patricia_has_few_nodes said image listed nodes is =
+      subst (λ (ns : List ℕ). length ns ≤ 2 * length listed) (sym is.nodes_are)
+      (subst (λ (rs : List CellRef). length (numbers (nodes_of is.tree)) ≤ 2 * length rs) (sym is.listed_is) (tree_few is.tree))
 
   pub patricia_rests_on_nodes : RestsOnNodes (patricia_nature class head)
   patricia_rests_on_nodes said image listed nodes is again after says same =

@@ -1,4 +1,4 @@
-use Rattle.rdb_patricia.specs.PatriciaLaws.{patricia_starts_empty, patricia_lists_once, patricia_has_index_cells, patricia_rests_on_nodes}
+use Rattle.rdb_patricia.specs.PatriciaLaws.{patricia_starts_empty, patricia_lists_once, patricia_has_index_cells, patricia_has_few_nodes, patricia_rests_on_nodes}
 use Rattle.rdb_patricia.proofs.laws.patricia_is_an_index.Goals as goal
 
 pub returns-clause-starts_empty : goal.returns-clause-starts_empty
@@ -12,3 +12,6 @@ returns-clause-has_index_cells c = patricia_has_index_cells c.args.class c.args.
 
 pub returns-clause-rests_on_nodes : goal.returns-clause-rests_on_nodes
 returns-clause-rests_on_nodes c = patricia_rests_on_nodes c.args.class c.args.head
+
+pub returns-clause-has_few_nodes : goal.returns-clause-has_few_nodes
+returns-clause-has_few_nodes c = patricia_has_few_nodes c.args.class c.args.head
