@@ -3,6 +3,5 @@ pub mod PartingLemmas
 pub mod ListingLemmas
 pub mod WayLemmas
 pub mod PlugLemmas
-
 pub mod ExactLemmas
 pub mod StartingLemmas

@@ -55,9 +55,9 @@ alike_begins a [] a_bytes t_bytes alike = refl
 alike_begins [] (y ∷ ys) a_bytes t_bytes alike = absurd (false≢true (alike 0 (omega arith)))
 alike_begins (x ∷ xs) (y ∷ ys) a_bytes t_bytes alike =
     let same : x ≡ y = same_bytes x y (a_bytes 0 x refl) (t_bytes 0 y refl)
-        (λ n below. sym (first_bit x xs n below) ∙ alike n (omega arith) ∙ first_bit y ys n below) in
+    (λ n below. sym (first_bit x xs n below) ∙ alike n (omega arith) ∙ first_bit y ys n below) in
     let rest = alike_begins xs ys (λ place byte is. a_bytes (suc place) byte is) (λ place byte is. t_bytes (suc place) byte is)
-        (λ n below. sym (rest_bit x xs n) ∙ alike (9 + n) (omega arith) ∙ rest_bit y ys n) in
+    (λ n below. sym (rest_bit x xs n) ∙ alike (9 + n) (omega arith) ∙ rest_bit y ys n) in
     ap₂ (λ (b c : Bool). b && c) (eq-eqb y x (sym same)) rest
 
 -- below a part that stops there, keys are alike
@@ -120,7 +120,7 @@ module _ (said : Sayings) (image : Image) (first : ℕ) (trie : Trie) (here : Is
       stands = none_part image;
       these = narrowed ∙ filter_none (matches Starting text (text_at said) (versions trie)) (versions reach.part)
           (λ r r_in. true_or_false (begins_with (text_at said r) text)
-              (λ begins. differ (sym (alike_near r r_in bit low) ∙ begins_alike (text_at said r) text begins bit low)));
+          (λ begins. differ (sym (alike_near r r_in bit low) ∙ begins_alike (text_at said r) text begins bit low)));
     }
 
 -- the bytes of a text

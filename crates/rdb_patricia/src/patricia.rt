@@ -5,7 +5,7 @@
 //! | the index head  | the first cell of the tree, none where it lists nothing                      |
 //! | a branch        | its two sides: the keys in which its bit is 0, and those in which it is 1   |
 //! | an entry        | its version, and the next entry of the same key                             |
-ghost use Rattle.std.specs.Prelude.{◌≡◌, ◌+◌, ◌≤◌, length, IfOk, cond};
+ghost use Rattle.std.specs.Prelude.{◌≡◌, ◌+◌, ◌<◌, ◌≤◌, length, IfOk, cond};
 ghost use Rattle.rdb_cells.specs.Index.{LacksVersion, HasVersion, Puts, Removes, PlansOnlyOwn, IsStanding, IsListing};
 ghost use Rattle.rdb_cells.specs.Keys.{says, SameVersionCells};
 ghost use Rattle.rdb_cells.specs.Parts.{patricia_part};
@@ -301,12 +301,6 @@ fn starting<C: Cells, K: Keys>(cells: &C, keys: &K, root: CellRef, text: &str) -
     let leaf = leaf_by_text(cells, spot.at, text);
     match parting_of_text(cells, keys, leaf.version, text) {
         None => spot.at,
-        Some(bit) => {
-            if bit < limit {
-                NONE
-            } else {
-                spot.at
-            }
-        }
+        Some(bit) => { if bit < limit { NONE } else { spot.at } }
     }
 }

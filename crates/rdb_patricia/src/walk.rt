@@ -200,11 +200,7 @@ fn next(at: CellRef, later: &mut Vec<CellRef>) -> Option<CellRef>
     ensures none { IfNone result ((at.number ≡ 0) × (later.old.items ≡ [])) }
     ensures some { IfSome result (λ r. IsNext at later.old.items r later.new.items) }
 {
-    if at == NONE {
-        later.pop()
-    } else {
-        Some(at)
-    }
+    if at == NONE { later.pop() } else { Some(at) }
 }
 
 /// Appends the versions below `first`, by ascending keys, and those of one key in the order of their entries. The cost grows

@@ -11,9 +11,12 @@ leaf_by_text-leaf-requires g c =
     let image = g.C.Cells.image c.args.cells.now in
     let said = says (g.K.Keys.meaning c.args.keys.now) image in
     let r = c.requires in
-    let reach = c.down_by_text-spot.ensures r.0 r.1 in
-    (said, reach.part, start_stands said image c.args.root.number r.0 r.1 r.2 c.args.text.now c.down_by_text-spot.result reach,
-     start_keyed said image c.args.root.number r.0 r.1 r.2 c.args.text.now c.down_by_text-spot.result reach)
+    let reach = c.down_by_text-spot.ensures r.0 r.1 in (
+      said,
+      reach.part,
+      start_stands said image c.args.root.number r.0 r.1 r.2 c.args.text.now c.down_by_text-spot.result reach,
+      start_keyed said image c.args.root.number r.0 r.1 r.2 c.args.text.now c.down_by_text-spot.result reach,
+    )
 
 pub returns-then-text : goal.returns-then-text
 returns-then-text g c = λ trie part keyed.
