@@ -5,3 +5,4 @@ pub mod WayLemmas
 pub mod PlugLemmas
 pub mod ExactLemmas
 pub mod StartingLemmas
+pub mod FindLemmas

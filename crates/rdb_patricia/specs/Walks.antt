@@ -3,10 +3,11 @@ use Rattle.std.specs.Prelude.{◌≡◌, ◌≢◌, ◌≤◌, ◌<◌, ◌++◌
 use Rattle.rdb_pages.specs.declared.cell.CellRef.{CellRef}
 use Rattle.rdb_cells.specs.Images.{Image}
 use Rattle.rdb_cells.specs.Keys.{Meaning, Sayings, says}
-use Rattle.rdb_cells.specs.Links.{IsAmong, Placed, numbers, StandApart}
+use Rattle.rdb_cells.specs.Links.{IsAmong, Placed, elements, start, numbers, StandApart}
 use Rattle.rdb_cells.specs.PlainList.{LeadsTo}
 use Rattle.rdb_cells.specs.References.{IsPageCell}
 use Rattle.rdb_patricia.specs.declared.how.How.{How}
+use Rattle.rdb_patricia.specs.declared.walk.Found.{Found}
 use Rattle.rdb_patricia.specs.declared.walk.Leaf.{Leaf}
 use Rattle.rdb_patricia.specs.declared.walk.Spot.{Spot}
 use Rattle.rdb_patricia.specs.Bits.{all_bits, text_at, HasTextKey}
@@ -116,3 +117,25 @@ pub record GivesPart (image : Image) (how : How) (text : List ℕ) (key : Texts)
   pub part : Option Trie
   pub stands : IsPart image number part
   pub these : filter (matches how text key (versions trie)) (versions trie) ≡ versions_of part
+
+-- the number of the last of these entries, 0 where there is none
+abbrev pub IsLast : List (Placed CellRef) → ℕ → Type 0
+IsLast [] number = number ≡ 0
+IsLast (p ∷ []) number = number ≡ p.number
+IsLast (p ∷ q ∷ qs) number = IsLast (q ∷ qs) number
+
+-- the version's entry stands at this place among the entries of a key, behind the one before it, and leads to the next one
+pub record IsAt (chain : List (Placed CellRef)) (version : CellRef) (found : Found) : Type 0 where
+  pub front : List (Placed CellRef)
+  pub back : List (Placed CellRef)
+  pub is : chain ≡ front ++ record { number = found.at.number; element = version } ∷ back
+  pub before : IsLast front found.before.number
+  pub next : found.next.number ≡ start back 0
+
+-- the version is one of the entries of a key from this number on; and whatever entries it is one of, this holds
+abbrev pub HasEntry : Image → ℕ → CellRef → Type 0
+HasEntry image first version = (p : Placed CellRef) × (ps : List (Placed CellRef)) × IsPart image first (Some (Entries p ps)) × Contains (elements (p ∷ ps)) version
+
+abbrev pub WhateverEntries : Image → ℕ → CellRef → (List (Placed CellRef) → Type 0) → Type 0
+WhateverEntries image first version Holds =
+    (p : Placed CellRef) (ps : List (Placed CellRef)) → IsPart image first (Some (Entries p ps)) → Contains (elements (p ∷ ps)) version → Holds (p ∷ ps)

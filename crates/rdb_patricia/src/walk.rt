@@ -5,7 +5,7 @@ ghost use Rattle.rdb_cells.specs.PatriciaFormat.{branch_in, patricia_entry_in};
 ghost use Rattle.rdb_cells.specs.Words.{IsOfKind};
 ghost use Rattle.rdb_patricia.specs.Bits.{bit_at, text_at, HasTextKey};
 ghost use Rattle.rdb_patricia.specs.Walks.{HasPart, HasTrie, WhateverTrie, ListsBelow, IsNext, IsReached};
-ghost use Rattle.rdb_patricia.specs.Walks.{HasShapedTrie, IsKeyed, IsLeaf};
+ghost use Rattle.rdb_patricia.specs.Walks.{HasShapedTrie, IsKeyed, IsLeaf, HasEntry, WhateverEntries, IsAt};
 
 use crate::bits::{ALL_BITS, BITS_OF_BYTE, key_bit, text_bit};
 use rdb_base::list::NoMemory;
@@ -177,7 +177,10 @@ pub fn last_end<C: Cells>(cells: &C, root: CellRef, text: &str, limit: u32) -> C
 }
 
 /// Finds the version's entry among those from `first` on. The cost grows with their number.
-pub fn find<C: Cells>(cells: &C, first: CellRef, version: CellRef) -> Found {
+pub fn find<C: Cells>(cells: &C, first: CellRef, version: CellRef) -> Found
+    requires { HasEntry (C.image cells.now) first.number version }
+    ensures { WhateverEntries (C.image cells.now) first.number version (λ chain. IsAt chain version result) }
+{
     let mut before = NONE;
     let mut at = first;
     for _ in 0..LAST_PAGE_CELL {
