@@ -210,7 +210,7 @@ module _ (before : Work) (near : CellRef → Bool) (version : CellRef) where
     pub climb_step : (whole : Tree) → IsWayDown (reading before) near whole path → IsUnderway before mid near version whole (steps ++ step ∷ []) raised → (after : Work) (result : Option Raised) →
         ((keys children : List CellRef) → IsNodeAt (reading mid) step.at keys children → PutsInto mid after step.at (raised_keys step.place raised.key keys) (raised_children step.place raised.right children) result) →
         IsPutUpTo before after near version whole steps result
-    climb_step Empty way under after result puts = 
+    climb_step Empty way under after result puts =
         let back = leads_back near Empty steps step under.rest under.leads in
         absurd (no_way near steps back.h back.t back.leads)
     climb_step (Rooted H T) way under after result puts =

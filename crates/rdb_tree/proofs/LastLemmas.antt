@@ -38,7 +38,7 @@ last_of_leaf w after at zero t rest lost branch leaf rest_is lost_is is =
     let some : 0 < length t.keys = (let enough = branch.shape.enough in omega arith) in
     let last = has_last t.keys some in
     let list : t.keys ≡ rest ++ lost ∷ [] =
-        sym last.taken ∙ ap₂ (λ (rs : List CellRef) (r : CellRef). rs ++ r ∷ []) (sym rest_is) (sym (lost_is ∙ got_last t.keys some)) in
+    sym last.taken ∙ ap₂ (λ (rs : List CellRef) (r : CellRef). rs ++ r ∷ []) (sym rest_is) (sym (lost_is ∙ got_last t.keys some)) in
     let leaves : Leaves lost t.keys rest = record { front = rest; back = []; was_is = list; now_is = sym (append-nil rest) } in
     let has = leaf_lost w after at least_keys t rest lost leaves branch is in
     record { lost_one = has.0; list = list ∙ ap (λ (rs : List CellRef). rs ++ lost ∷ []) (sym has.1) }
@@ -91,9 +91,9 @@ module _ (w : Work) (at : CellRef) (place : ℕ) (child : CellRef) where
             ∙ sym (append_assoc end.ahead (versions h has.lost_one.now) (lost ∷ []))
             ∙ ap (λ (p : List CellRef). p ++ lost ∷ [])
             (sym (end.other (versions h has.lost_one.now))
-                ∙ ap (woven t.keys) (sym (map_another (versions h) place has.lost_one.now t.children))
-                ∙ sym (child_list w mid lost at least_keys place (3 * h + 1) h t branch (let enough = branch.shape.0.enough in omega arith) found.0 found.1 has.lost_one)
-                ∙ sym (reduced_list w mid after lost at place (3 * h + 1) h t reduced mended))
+            ∙ ap (woven t.keys) (sym (map_another (versions h) place has.lost_one.now t.children))
+            ∙ sym (child_list w mid lost at least_keys place (3 * h + 1) h t branch (let enough = branch.shape.0.enough in omega arith) found.0 found.1 has.lost_one)
+            ∙ sym (reduced_list w mid after lost at place (3 * h + 1) h t reduced mended))
 
         lost_last : HasLostLast w after lost (suc h) t
         lost_last = record {

@@ -61,26 +61,29 @@ branch_child image at least h t branch n c there = record {
 
 -- a leaf is written without a version
 pub leaf_lost : (w after : Work) (at : CellRef) (least : ℕ) (t : BTree zero) (rest : List CellRef) (lost : CellRef) (leaves : Leaves lost t.keys rest) → IsBranch (reading w) at least zero t → after ≡ with_cell w at (cell_of rest []) → (has : HasLost w after lost 1 zero t) × (versions zero has.now ≡ rest)
-leaf_lost w after at least t rest lost leaves branch is = subst (λ (v : Work). (has : HasLost w v lost 1 zero t) × (versions zero has.now ≡ rest)) (sym is) ((record {
-  now = record { at = t.at; keys = rest; children = [] };
-  less = record {
-    at = refl;
-    stands = subst (λ (r : CellRef). reading (with_cell w at (cell_of rest [])) r.number ≡ Some (cell_of rest [])) (sym branch.root) (put_reads w at (cell_of rest [])).here;
-    shape = λ most shape.
-        let long = ap (length {A = CellRef}) leaves.was_is in
-        let less = ap (length {A = CellRef}) leaves.now_is in
-        let first = length-append leaves.front (lost ∷ leaves.back) in
-        let second = length-append leaves.front leaves.back in
-        let enough = shape.enough in
-        let fit = shape.fit in
-        record { enough = omega arith; fit = omega arith };
-    leaves = leaves;
-    drops = record { more = λ n within. within; gone = λ n within. inl within; once = ((λ none. none), tt) };
-    elsewhere = λ n out. (put_reads w at (cell_of rest [])).elsewhere n (λ same. out (inl (ap (λ (r : CellRef). r.number) branch.root ∙ sym same)));
-  };
-  plain = plain_put w w (cells zero t) 0 at (cell_of rest []) (plain_first w (cells zero t)) (inl (ap (λ (r : CellRef). r.number) branch.root))
-      (node_spent w (λ r. true) at (Rooted zero t) branch.stands at.number (inl (ap (λ (r : CellRef). r.number) branch.root)));
-}), refl)
+leaf_lost w after at least t rest lost leaves branch is = subst (λ (v : Work). (has : HasLost w v lost 1 zero t) × (versions zero has.now ≡ rest)) (sym is) (
+  (record {
+    now = record { at = t.at; keys = rest; children = [] };
+    less = record {
+      at = refl;
+      stands = subst (λ (r : CellRef). reading (with_cell w at (cell_of rest [])) r.number ≡ Some (cell_of rest [])) (sym branch.root) (put_reads w at (cell_of rest [])).here;
+      shape = λ most shape.
+          let long = ap (length {A = CellRef}) leaves.was_is in
+          let less = ap (length {A = CellRef}) leaves.now_is in
+          let first = length-append leaves.front (lost ∷ leaves.back) in
+          let second = length-append leaves.front leaves.back in
+          let enough = shape.enough in
+          let fit = shape.fit in
+          record { enough = omega arith; fit = omega arith };
+      leaves = leaves;
+      drops = record { more = λ n within. within; gone = λ n within. inl within; once = ((λ none. none), tt) };
+      elsewhere = λ n out. (put_reads w at (cell_of rest [])).elsewhere n (λ same. out (inl (ap (λ (r : CellRef). r.number) branch.root ∙ sym same)));
+    };
+    plain = plain_put w w (cells zero t) 0 at (cell_of rest []) (plain_first w (cells zero t)) (inl (ap (λ (r : CellRef). r.number) branch.root))
+        (node_spent w (λ r. true) at (Rooted zero t) branch.stands at.number (inl (ap (λ (r : CellRef). r.number) branch.root)));
+  }),
+  refl,
+)
 
 -- the node without its version, one of whose children may be a key too few
 pub record IsReduced (w mid : Work) (lost at : CellRef) (place count h : ℕ) (t : BTree (suc h)) : Type 0 where

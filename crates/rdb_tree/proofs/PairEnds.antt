@@ -108,15 +108,15 @@ module _ (w : Work) (at : CellRef) (h place : ℕ) (K L : List CellRef) (k : Cel
     two_mended u v m u_at v_at u_stands v_stands u_shape v_shape list drops here =
         mended (reading w) b h at K L k F B x y same stands few many once front back stays (m ∷ []) (u ∷ v ∷ []) (omega arith) refl (u_shape, (v_shape, tt)) (u_stands, (v_stands, tt))
         (ap (λ (rs : List CellRef). versions h u ++ m ∷ rs) (woven_first L (versions h v) (map (versions h) B))
-            ∙ sym (append_assoc (versions h u) (m ∷ versions h v) (behind_part L (map (versions h) B)))
-            ∙ ap (λ (rs : List CellRef). rs ++ behind_part L (map (versions h) B)) list)
+        ∙ sym (append_assoc (versions h u) (m ∷ versions h v) (behind_part L (map (versions h) B)))
+        ∙ ap (λ (rs : List CellRef). rs ++ behind_part L (map (versions h) B)) list)
         drops
         (here
-            ∙ ap (λ (ks : List CellRef). Some (cell_of ks (roots (suc h) (F ++ x ∷ y ∷ B)))) (replaced_front K k m L place place_is)
-            ∙ ap (λ (rs : List CellRef). Some (cell_of (K ++ m ∷ L) rs))
-            (map-append (λ (c : BTree h). c.at) F (x ∷ y ∷ B)
-                ∙ ap₂ (λ (r s : CellRef). map (λ (c : BTree h). c.at) F ++ r ∷ s ∷ map (λ (c : BTree h). c.at) B) (sym u_at) (sym v_at)
-                ∙ sym (map-append (λ (c : BTree h). c.at) F (u ∷ v ∷ B))))
+        ∙ ap (λ (ks : List CellRef). Some (cell_of ks (roots (suc h) (F ++ x ∷ y ∷ B)))) (replaced_front K k m L place place_is)
+        ∙ ap (λ (rs : List CellRef). Some (cell_of (K ++ m ∷ L) rs))
+        (map-append (λ (c : BTree h). c.at) F (x ∷ y ∷ B)
+        ∙ ap₂ (λ (r s : CellRef). map (λ (c : BTree h). c.at) F ++ r ∷ s ∷ map (λ (c : BTree h). c.at) B) (sym u_at) (sym v_at)
+        ∙ sym (map-append (λ (c : BTree h). c.at) F (u ∷ v ∷ B))))
 
     -- one
     one_mended : (u : BTree h) → u.at ≡ x.at → Stands h b u → IsShaped h least_keys u → versions h u ≡ versions h x ++ k ∷ versions h y → DropsCells b (cells h x ++ (cells h y ++ [])) (cells h u ++ []) →
@@ -127,12 +127,12 @@ module _ (w : Work) (at : CellRef) (h place : ℕ) (K L : List CellRef) (k : Cel
         (woven_first L (versions h u) (map (versions h) B) ∙ ap (λ (rs : List CellRef). rs ++ behind_part L (map (versions h) B)) list)
         drops
         (here
-            ∙ ap (λ (ks : List CellRef). Some (cell_of ks (without (suc place) (roots (suc h) (F ++ x ∷ y ∷ B))))) (without_front K k L place place_is)
-            ∙ ap (λ (rs : List CellRef). Some (cell_of (K ++ L) rs))
-            (ap (without (suc place)) (map-append (λ (c : BTree h). c.at) F (x ∷ y ∷ B))
-                ∙ without_next (map (λ (c : BTree h). c.at) F) x.at y.at (map (λ (c : BTree h). c.at) B) place (first ∙ sym same ∙ place_is)
-                ∙ ap (λ (r : CellRef). map (λ (c : BTree h). c.at) F ++ r ∷ map (λ (c : BTree h). c.at) B) (sym u_at)
-                ∙ sym (map-append (λ (c : BTree h). c.at) F (u ∷ B))))
+        ∙ ap (λ (ks : List CellRef). Some (cell_of ks (without (suc place) (roots (suc h) (F ++ x ∷ y ∷ B))))) (without_front K k L place place_is)
+        ∙ ap (λ (rs : List CellRef). Some (cell_of (K ++ L) rs))
+        (ap (without (suc place)) (map-append (λ (c : BTree h). c.at) F (x ∷ y ∷ B))
+        ∙ without_next (map (λ (c : BTree h). c.at) F) x.at y.at (map (λ (c : BTree h). c.at) B) place (first ∙ sym same ∙ place_is)
+        ∙ ap (λ (r : CellRef). map (λ (c : BTree h). c.at) F ++ r ∷ map (λ (c : BTree h). c.at) B) (sym u_at)
+        ∙ sym (map-append (λ (c : BTree h). c.at) F (u ∷ B))))
 
   abbrev last_key : CellRef
   last_key = get_or x.keys (length x.keys - 1) no_ref

@@ -13,11 +13,9 @@ use Rattle.rdb_tree.specs.Growth.{IsWayDown, IsUnderway, IsSettled, IsTreePut}
 use Rattle.rdb_tree.specs.Nature.{IsTree, IsSound, IsRootedAt, most_levels}
 use Rattle.rdb_tree.specs.Order.{AreAscending, is_before}
 use Rattle.rdb_tree.specs.Trees.{Node, BTree, Tree, Empty, Rooted, root_of, levels_of, versions_of}
-
 use Rattle.rdb_tree.specs.Ways.{Leads, GoesOnTo}
 use Rattle.rdb_tree.specs.declared.insert.Raised.{Raised}
 use Rattle.rdb_tree.specs.declared.path.Step.{Step}
-
 use Rattle.rdb_tree.proofs.LevelLemmas.{tree_rooted}
 use Rattle.rdb_tree.proofs.NodeLemmas.{own_cell}
 use Rattle.rdb_tree.proofs.RootLemmas.{put_in_place, put_alone, put_above}

@@ -181,9 +181,9 @@ bare_node before mid after version head h t leads stands shape levels has none i
     into before mid after version head (suc h) t leads stands shape levels has head_cell (Rooted h c)
     (ap (λ (cs : List (BTree h)). index_head_cell (rooted_head (unwrap_or (slice_get (roots (suc h) cs) 0) no_ref))) only.1)
     (still_stands (reading mid) (reading (lowered before mid after version head (suc h) t leads stands shape levels has head_cell)) h c
-        (λ n within. lowered_other before mid after version head (suc h) t leads stands shape levels has head_cell n
-            (λ same. once.0 (subst (IsAmong (cells h c)) (same ∙ sym root_is) within))
-            (λ same. head_out before mid after version head (suc h) t leads stands shape levels has (subst (IsAmong (cells (suc h) t)) same (has.less.drops.more n (inside n within))))) c_stands)
+    (λ n within. lowered_other before mid after version head (suc h) t leads stands shape levels has head_cell n
+    (λ same. once.0 (subst (IsAmong (cells h c)) (same ∙ sym root_is) within))
+    (λ same. head_out before mid after version head (suc h) t leads stands shape levels has (subst (IsAmong (cells (suc h) t)) same (has.less.drops.more n (inside n within))))) c_stands)
     (looser h c (subst (Each (IsShaped h least_keys)) only.1 shaped.2).0)
     (sym (ap₂ (λ (ks : List CellRef) (cs : List (BTree h)). versions (suc h) (record { at = has.now.at; keys = ks; children = cs })) none only.1 ∙ append-nil (versions h c)))
     once.1 inside

@@ -160,11 +160,11 @@ module _ (a b c d : Image) (near : CellRef → Bool) (version : CellRef) (fresh 
       let shapes = inner_halves t.at right keys eight h children nine risen.built.1 in
       let not_right : ¬ IsAmong (cells (suc h) (overfull (suc h) t.at keys children)) right.number = λ within. elim (risen.adds.more right.number within) [ inl old ↦ not_own old | inr new ↦ not_fresh new ] in
       let below = children_still b d h keys children risen.built (λ m within.
-          before.elsewhere m (λ same. risen.adds.once.0 (subst (IsAmong (flat_map (cells h) children)) same within))
-          ∙ behind.elsewhere m (λ same. not_right (inr (subst (IsAmong (flat_map (cells h) children)) same within)))) in
+      before.elsewhere m (λ same. risen.adds.once.0 (subst (IsAmong (flat_map (cells h) children)) same within))
+      ∙ behind.elsewhere m (λ same. not_right (inr (subst (IsAmong (flat_map (cells h) children)) same within)))) in
       let stand = inner_halves_stand d t.at right keys h children before.here (before.elsewhere right.number other ∙ behind.here) below in
       let adds : AddsCells fresh (cells (suc h) t) (t.at.number ∷ (flat_map (cells h) (take 4 children) ++ flat_map (cells h) (drop 4 children))) =
-          subst (λ (xs : List ℕ). AddsCells fresh (cells (suc h) t) (t.at.number ∷ xs)) (sym (half_cells h children)) risen.adds in
+      subst (λ (xs : List ℕ). AddsCells fresh (cells (suc h) t) (t.at.number ∷ xs)) (sym (half_cells h children)) risen.adds in
       record {
         l = left_half (suc h) t.at keys children;
         r = right_half (suc h) right keys children;

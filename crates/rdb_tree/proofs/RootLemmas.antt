@@ -116,7 +116,7 @@ put_in_place before after head near version (Rooted h t) leads stands shape leve
     let account = account_within before after (head.number ∷ cells h t) settled.fresh (suc h) (account_head before head (Rooted h t) leads stands after settled.fresh (suc h) settled.account) (most_levels + 1) (omega arith) in
     tree_put before head (Rooted h t) leads stands near version after settled.fresh (Rooted h u) account
     (grown.elsewhere head.number (head_apart before head (Rooted h t) leads stands) (λ new. head_spent before head (Rooted h t) leads stands (settled.account.left head.number new))
-        ∙ leads ∙ ap (λ (r : CellRef). Some (index_head_cell (rooted_head r))) (sym grown.at))
+    ∙ leads ∙ ap (λ (r : CellRef). Some (index_head_cell (rooted_head r))) (sym grown.at))
     grown.stands (grown.shape 1 shape) grown.comes grown.adds (λ n out new. grown.elsewhere n (λ within. out (inr within)) new)
 
 -- a new root stands in the lowest cell, and the head leads to it
@@ -197,17 +197,16 @@ put_above before mid after head near version raised h t leads stands levels unde
     let left = (account.lowest.left new.top.number).0 new.lowest.untaken in
     let stays = stays_two before mid head near version (Rooted h t) leads stands levels under.fresh account new.top cell head_cell new.lowest in
     let apart : (n : ℕ) → IsAmong (cells h halved.l ++ cells h halved.r) n → reading (two before mid head near version (Rooted h t) leads stands levels under.fresh account new.top cell head_cell new.lowest) n ≡ reading mid n = λ n within. stays n
-        (λ same. elim (halved.adds.more n within) [
-          | inl old ↦ top_apart before mid head near version (Rooted h t) leads stands levels under.fresh account new.top cell head_cell new.lowest (subst (IsAmong (cells h t)) same old)
-          | inr fresh ↦ left.1 (subst (IsAmong under.fresh) same fresh)
-        ])
-        (λ same. elim (halved.adds.more n within) [
-          | inl old ↦ head_apart before head (Rooted h t) leads stands (subst (IsAmong (cells h t)) same old)
-          | inr fresh ↦ head_spent before head (Rooted h t) leads stands (subst (IsLeft before) same (account.left n fresh))
-        ]) in
+    (λ same. elim (halved.adds.more n within) [
+      | inl old ↦ top_apart before mid head near version (Rooted h t) leads stands levels under.fresh account new.top cell head_cell new.lowest (subst (IsAmong (cells h t)) same old)
+      | inr fresh ↦ left.1 (subst (IsAmong under.fresh) same fresh)
+    ])
+    (λ same. elim (halved.adds.more n within) [
+      | inl old ↦ head_apart before head (Rooted h t) leads stands (subst (IsAmong (cells h t)) same old)
+      | inr fresh ↦ head_spent before head (Rooted h t) leads stands (subst (IsLeft before) same (account.left n fresh))
+    ]) in
     subst (λ (w : Work). IsTreePut before w near version head.number (Rooted h t)) (sym new.work)
-    (root_put before mid head near version (Rooted h t) leads stands levels under.fresh account new.top cell head_cell new.lowest (Rooted (suc h) u) refl refl
-    (
+    (root_put before mid head near version (Rooted h t) leads stands levels under.fresh account new.top cell head_cell new.lowest (Rooted (suc h) u) refl refl (
       top_here before mid head near version (Rooted h t) leads stands levels under.fresh account new.top cell head_cell new.lowest
           ∙ ap (λ (rs : List CellRef). Some (cell_of (raised.key ∷ []) rs)) (ap (λ (r : CellRef). r ∷ raised.right ∷ []) (sym halved.left_at) ∙ ap (λ (r : CellRef). halved.l.at ∷ r ∷ []) (sym halved.right_at)),
       (
@@ -218,5 +217,5 @@ put_above before mid after head near version raised h t leads stands levels unde
     (record { enough = omega arith; fit = omega arith }, refl, (halved.left_shape, (halved.right_shape, tt)))
     (subst (λ (rs : List CellRef). ComesTo near version (versions h t) (versions h halved.l ++ raised.key ∷ rs)) (sym (append-nil (versions h halved.r))) halved.comes)
     (subst (λ (ns : List ℕ). AddsCells (under.fresh ++ new.top.number ∷ []) (cells h t) (new.top.number ∷ (cells h halved.l ++ ns))) (sym (append-nil (cells h halved.r)))
-        (adds_top under.fresh (cells h t) (cells h halved.l ++ cells h halved.r) new.top.number halved.adds (λ within. top_apart before mid head near version (Rooted h t) leads stands levels under.fresh account new.top cell head_cell new.lowest within) left.1))
+    (adds_top under.fresh (cells h t) (cells h halved.l ++ cells h halved.r) new.top.number halved.adds (λ within. top_apart before mid head near version (Rooted h t) leads stands levels under.fresh account new.top cell head_cell new.lowest within) left.1))
     halved.elsewhere)

@@ -117,9 +117,9 @@ module _ (w : Work) (at : CellRef) (h place : ℕ) (t : BTree (suc h)) (s : IsSh
         ahead_is = (
           before.taken,
           (let both = length-append (take (length s.front - 1) s.front) (before.last ∷ []) in
-          let count = ap (length {A = BTree h}) before.taken in
-          let there = s.place_is in
-          omega arith),
+              let count = ap (length {A = BTree h}) before.taken in
+              let there = s.place_is in
+              omega arith),
         )
 
         left_pair : IsPairOf h t (place - 1) ahead s.back before.last s.short

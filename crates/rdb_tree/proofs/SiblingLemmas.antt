@@ -80,9 +80,9 @@ module _ (k : CellRef) where
       let parts = map (versions h) kept_children in
       let moved : drop (length x.children - 1) x.children ++ y.children ≡ child.last ∷ y.children = ap (λ (cs : List (BTree h)). cs ++ y.children) child.dropped in
       let whole : versions (suc h) x ≡ woven kept parts ++ last.last ∷ (versions h child.last ++ []) =
-          ap₂ (λ (ks : List CellRef) (cs : List (BTree h)). woven ks (map (versions h) cs)) (sym last.taken) (sym child.taken)
-          ∙ ap (woven (kept ++ last.last ∷ [])) (map-append (versions h) kept_children (child.last ∷ []))
-          ∙ woven_between kept last.last [] parts (versions h child.last ∷ []) (omega arith) in
+      ap₂ (λ (ks : List CellRef) (cs : List (BTree h)). woven ks (map (versions h) cs)) (sym last.taken) (sym child.taken)
+      ∙ ap (woven (kept ++ last.last ∷ [])) (map-append (versions h) kept_children (child.last ∷ []))
+      ∙ woven_between kept last.last [] parts (versions h child.last ∷ []) (omega arith) in
       ap (λ (m : CellRef). woven kept parts ++ m ∷ woven (k ∷ y.keys) (map (versions h) (drop (length x.children - 1) x.children ++ y.children))) (last_is x.keys last no_ref some)
       ∙ ap (λ (cs : List (BTree h)). woven kept parts ++ last.last ∷ woven (k ∷ y.keys) (map (versions h) cs)) moved
       ∙ ap (λ (vs : List CellRef). woven kept parts ++ last.last ∷ (vs ++ k ∷ versions (suc h) y)) (sym (append-nil (versions h child.last)))
@@ -143,8 +143,7 @@ module _ (k : CellRef) where
       let also = short.1 in
       let kept_children = length-take-le (length x.children - 1) x.children (omega arith) in
       let moved = length-drop (length x.children - 1) x.children in
-      let both = length-append (drop (length x.children - 1) x.children) y.children in
-      (
+      let both = length-append (drop (length x.children - 1) x.children) y.children in (
         (record { enough = omega arith; fit = omega arith }, omega arith, each_take (IsShaped h least_keys) (length x.children - 1) x.children shape.2),
         (record { enough = omega arith; fit = omega arith }, omega arith, each_both (IsShaped h least_keys) (drop (length x.children - 1) x.children) y.children (each_drop (IsShaped h least_keys) (length x.children - 1) x.children shape.2) short.2),
       )
@@ -165,8 +164,7 @@ module _ (k : CellRef) where
       let also = shape.1 in
       let moved = length-take-le 1 y.children (omega arith) in
       let rest = length-drop 1 y.children in
-      let both = length-append x.children (take 1 y.children) in
-      (
+      let both = length-append x.children (take 1 y.children) in (
         (record { enough = omega arith; fit = omega arith }, omega arith, each_both (IsShaped h least_keys) x.children (take 1 y.children) short.2 (each_take (IsShaped h least_keys) 1 y.children shape.2)),
         (record { enough = omega arith; fit = omega arith }, omega arith, each_drop (IsShaped h least_keys) 1 y.children shape.2),
       )

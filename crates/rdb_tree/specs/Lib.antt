@@ -4,7 +4,6 @@ pub mod Changes
 pub mod Lookups
 pub mod Nature
 pub mod TreeLaws
-pub mod KeyTable
 pub mod Ways
 pub mod Growth
 pub mod Losses

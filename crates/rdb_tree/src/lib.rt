@@ -3,8 +3,6 @@
 #![tactic(auto)]
 
 mod insert;
-#[cfg(test)]
-mod key_table;
 mod lookup;
 mod node;
 mod path;
