@@ -107,16 +107,17 @@ module _ (es : List Entry) (e : Entry) where
       go (Some x) f g = ap (option_and_then committed) (get_left es (e ∷ []) c.entry (get_within es c.entry x f) ∙ f) ∙ g
 
   -- an entry that isn't a commit
-  pub kept_beside : (room : ℕ) (commits_kept : Reserved Commit) (writes : Reserved Write) (table : Newest) (write_room : ℕ) → committed e ≡ None
-      → IsKept (record { items = es; room = room }) commits_kept writes table write_room
-      → IsKept (record { items = es ++ e ∷ []; room = room - 1 }) commits_kept writes table write_room
-  kept_beside room commits_kept writes table write_room none kept = record {
+  pub kept_beside : (places room : ℕ) (commits_kept : Reserved Commit) (writes : Reserved Write) (table : Newest) (write_room : ℕ) → committed e ≡ None
+      → IsKept (record { items = es; room = places }) commits_kept writes table room write_room
+      → IsKept (record { items = es ++ e ∷ []; room = places - 1 }) commits_kept writes table (room - 1) write_room
+  kept_beside places room commits_kept writes table write_room none kept = record {
     many = kept.many ∙ sym same_commits;
     each = λ n c at.
         indexed_kept writes.items writes.items (suc n) c (let f = get_within commits_kept.items n c at in let g = kept.many in omega arith) (omega arith) (λ i h. refl) (kept.each n c at);
     newest = λ object.
         subst (λ (r : Option Row). NewestLeads (es ++ e ∷ []) object r writes.items (newest_of table object)) (sym (ap (λ n. last_row (es ++ e ∷ []) n object) same_commits ∙ last_row_kept (commits es) object (omega arith)))
         (newest_kept object (last_row es (commits es) object) writes.items (newest_of table object) (kept.newest object));
+    entry_room = let f = kept.entry_room in omega arith;
     commit_room = let f = kept.commit_room in omega arith;
     writes_room = kept.writes_room;
     newest_room = kept.newest_room;
@@ -162,8 +163,8 @@ module _ (es : List Entry) (story : Story) (number : ℕ) where
   pub stands_last : StandsAt (es ++ own ∷ []) (length es) story.done
   stands_last k = ap (λ (o : Option Entry). slice_get (option_map_or done_of o []) k) (get_last es own)
 
-  pub kept_after : (room place classes first count : ℕ) (commits_kept : Reserved Commit) (writes more : Reserved Write) (table next : Newest) (write_room : ℕ)
-      → IsKept (record { items = es; room = room }) commits_kept writes table write_room
+  pub kept_after : (entry_places room place classes first count : ℕ) (commits_kept : Reserved Commit) (writes more : Reserved Write) (table next : Newest) (write_room : ℕ)
+      → IsKept (record { items = es; room = entry_places }) commits_kept writes table room write_room
       → place ≡ length es → first ≡ length writes.items → count ≡ length more.items - first → 0 < room
       → length (filter_map written_by story.done) ≤ write_room
       → HasClasses classes story.done
@@ -172,10 +173,10 @@ module _ (es : List Entry) (story : Story) (number : ℕ) where
       → more.room + length more.items ≡ writes.room + length writes.items
       → spare table + length writes.items ≤ spare next + length more.items
       → (count ≡ length (objects_written story.done))
-      × IsKept (record { items = es ++ own ∷ []; room = room - 1 })
+      × IsKept (record { items = es ++ own ∷ []; room = entry_places - 1 })
       (record { items = commits_kept.items ++ record { entry = place; classes = classes; first = first; count = count } ∷ []; room = commits_kept.room - 1 })
-      more next (write_room - count)
-  kept_after room place classes first count commits_kept writes more table next write_room kept is_place is_first is_count roomy enough has indexed same places table_places = (
+      more next (room - 1) (write_room - count)
+  kept_after entry_places room place classes first count commits_kept writes more table next write_room kept is_place is_first is_count roomy enough has indexed same places table_places = (
     counted,
     record {
       many =
@@ -184,6 +185,7 @@ module _ (es : List Entry) (story : Story) (number : ℕ) where
       newest = λ object.
           subst (λ (r : Option Row). NewestLeads (es ++ own ∷ []) object r more.items (newest_of next object)) (sym (ap (λ n. last_row (es ++ own ∷ []) n object) commits_more ∙ row_last object))
           (taken.newest object);
+      entry_room = let f = kept.entry_room in omega arith;
       commit_room = let f = kept.commit_room in omega arith;
       writes_room = let f = kept.writes_room in let g = taken.count in omega arith;
       newest_room = let f = kept.newest_room in let g = taken.count in omega arith;
@@ -244,9 +246,9 @@ module _ (es : List Entry) (story : Story) (number : ℕ) where
           (subst (λ (m : ℕ). IsIndexed (es ++ own ∷ []) more.items m now) last indexed_now)
 
 -- what is kept of the commit of a number
-pub kept_of : (entries : Reserved Entry) (commits_kept : Reserved Commit) (writes : Reserved Write) (table : Newest) (write_room commit : ℕ) (c : Commit)
-    → IsKept entries commits_kept writes table write_room → 0 < commit → slice_get commits_kept.items (commit - 1) ≡ Some c → IsIndexed entries.items writes.items commit c
-kept_of entries commits_kept writes table write_room commit c kept positive at =
+pub kept_of : (entries : Reserved Entry) (commits_kept : Reserved Commit) (writes : Reserved Write) (table : Newest) (room write_room commit : ℕ) (c : Commit)
+    → IsKept entries commits_kept writes table room write_room → 0 < commit → slice_get commits_kept.items (commit - 1) ≡ Some c → IsIndexed entries.items writes.items commit c
+kept_of entries commits_kept writes table room write_room commit c kept positive at =
     let number : suc (commit - 1) ≡ commit = omega arith in
     subst (λ n. IsIndexed entries.items writes.items n c) number (kept.each (commit - 1) c at)
 
@@ -261,12 +263,12 @@ pub write_of : (es : List Entry) (writes : List Write) (commit k : ℕ) (c : Com
 write_of es writes commit k c object w is at stood = subst (λ (o : Option Write). IsSomeAnd o (IsWriteOf es commit object)) stood (is.each k object at)
 
 -- more room keeps what is kept
-pub kept_with_room : (entries roomier : Reserved Entry) (commits_kept commits_now : Reserved Commit) (writes writes_now : Reserved Write) (table table_now : Newest) (room room_now : ℕ)
-    → IsKept entries commits_kept writes table room
+pub kept_with_room : (entries roomier : Reserved Entry) (commits_kept commits_now : Reserved Commit) (writes writes_now : Reserved Write) (table table_now : Newest) (room write_room room_now write_room_now : ℕ)
+    → IsKept entries commits_kept writes table room write_room
     → roomier.items ≡ entries.items → commits_now.items ≡ commits_kept.items → writes_now.items ≡ writes.items → ((object : ℕ × ℕ) → newest_of table_now object ≡ newest_of table object)
-    → roomier.room ≤ commits_now.room → room_now ≤ writes_now.room → room_now ≤ spare table_now
-    → IsKept roomier commits_now writes_now table_now room_now
-kept_with_room entries roomier commits_kept commits_now writes writes_now table table_now room room_now kept same_entries same_commits same_writes same_table a b c = record {
+    → room_now ≤ roomier.room → room_now ≤ commits_now.room → write_room_now ≤ writes_now.room → write_room_now ≤ spare table_now
+    → IsKept roomier commits_now writes_now table_now room_now write_room_now
+kept_with_room entries roomier commits_kept commits_now writes writes_now table table_now room write_room room_now write_room_now kept same_entries same_commits same_writes same_table o a b c = record {
   many = ap length same_commits ∙ kept.many ∙ ap commits (sym same_entries);
   each = λ n k at.
       subst (λ (es : List Entry). IsIndexed es writes_now.items (suc n) k) (sym same_entries)
@@ -275,6 +277,7 @@ kept_with_room entries roomier commits_kept commits_now writes writes_now table 
       subst (λ (es : List Entry). NewestLeads es object (last_row es (commits es) object) writes_now.items (newest_of table_now object)) (sym same_entries)
       (subst (λ (ws : List Write). NewestLeads entries.items object (last_row entries.items (commits entries.items) object) ws (newest_of table_now object)) (sym same_writes)
       (subst (λ (f : Option ℕ). NewestLeads entries.items object (last_row entries.items (commits entries.items) object) writes.items f) (sym (same_table object)) (kept.newest object)));
+  entry_room = o;
   commit_room = a;
   writes_room = b;
   newest_room = c;

@@ -85,13 +85,14 @@ abbrev pub AreNewest : List Entry → List Write → Newest → Type 0
 AreNewest entries writes table =
     (object : ℕ × ℕ) → NewestLeads entries object (last_row entries (commits entries) object) writes (newest_of table object)
 
--- that what is kept is so of each commit, with room for more
+-- that what is kept is so of each commit, with room for so many more entries and writes
 pub record IsKept
     (entries : Reserved Entry) (commits_kept : Reserved Commit) (writes : Reserved Write) (table : Newest)
-    (write_room : ℕ) : Type 0 where
+    (room write_room : ℕ) : Type 0 where
   pub many : length commits_kept.items ≡ commits entries.items
   pub each : (n : ℕ) (c : Commit) → slice_get commits_kept.items n ≡ Some c → IsIndexed entries.items writes.items (suc n) c
   pub newest : AreNewest entries.items writes.items table
-  pub commit_room : entries.room ≤ commits_kept.room
+  pub entry_room : room ≤ entries.room
+  pub commit_room : room ≤ commits_kept.room
   pub writes_room : write_room ≤ writes.room
   pub newest_room : write_room ≤ spare table

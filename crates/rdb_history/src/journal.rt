@@ -41,6 +41,7 @@ pub struct Journal {
     commits: Ready<Commit>,
     writes: Ready<Write>,
     newest: Newest,
+    room: usize,
     write_room: usize,
 }
 
@@ -49,9 +50,9 @@ impl Model for Journal {
 
     ghost Value = { Kept };
 
-    ghost view = { λ j. record { entries = j.entries.items; room = j.entries.room; write_room = j.write_room } };
+    ghost view = { λ j. record { entries = j.entries.items; room = j.room; write_room = j.write_room } };
 
-    ghost invariant = { λ j. IsKept j.entries j.commits j.writes j.newest j.write_room };
+    ghost invariant = { λ j. IsKept j.entries j.commits j.writes j.newest j.room j.write_room };
 }
 
 // The row at a position, if there is a position.
@@ -92,6 +93,23 @@ fn write_from(writes: &Ready<Write>, first: usize, number: usize) -> &Write
     writes.at(first + number)
 }
 
+// Reserves room for so many further elements, beside what is claimed of the room that there is.
+fn reserve_beside<T>(elements: &mut Ready<T>, claimed: usize, more: usize) -> Result<(), NoMemory>
+    requires { claimed ≤ elements.old.room }
+    ensures items { elements.new.items ≡ elements.old.items }
+    ensures kept { elements.old.room ≤ elements.new.room }
+    ensures room { OnOk result (claimed + more ≤ elements.new.room) }
+    ensures limit { OnOk result (length elements.new.items + (claimed + more) ≤ MAX_PLACES) }
+{
+    // elements and room are never more than that many places
+    let _places = elements.len();
+    let spare = elements.room() - claimed;
+    if more > spare {
+        elements.reserve(more - spare)?;
+    }
+    Ok(())
+}
+
 impl Journal {
     /// No entry, and no room. It takes no memory.
     pub fn new(alloc: Global) -> Journal
@@ -102,26 +120,39 @@ impl Journal {
             commits: Ready::new(alloc),
             writes: Ready::new(alloc),
             newest: HashMap::new(alloc),
+            room: 0,
             write_room: 0,
         }
     }
 
     /// Reserves room for so many further entries, and for so many further writes of commits, beside the room that there is. Entries and
     /// room are never more than `MAX_PLACES`, nor are writes and their room. Where memory is wanting, or there would be more, nothing
-    /// changes. No room is given back but by `append`, which uses it up: who keeps count of what is claimed of it asks `room` and
-    /// `write_room`, and reserves what is wanting. The cost is that of what is reserved, spread over many calls.
+    /// changes. The cost is that of what is reserved, spread over many calls; what was released is taken first, and costs nothing.
     pub fn reserve(&mut self, entries: usize, writes: usize) -> Result<(), NoMemory>
         ensures ok { OnOk result (self.new ≡
             record self.old { room = self.old.room + entries; write_room = self.old.write_room + writes }) }
         ensures limit { OnOk result (length self.new.entries + self.new.room ≤ MAX_PLACES) }
         ensures err { OnErr result (self.new ≡ self.old) }
     {
-        self.commits.reserve(entries)?;
-        self.writes.reserve(writes)?;
+        reserve_beside(&mut self.entries, self.room, entries)?;
+        reserve_beside(&mut self.commits, self.room, entries)?;
+        reserve_beside(&mut self.writes, self.write_room, writes)?;
         self.newest.reserve(self.write_room + writes)?;
-        self.entries.reserve(entries)?;
+        self.room += entries;
         self.write_room += writes;
         Ok(())
+    }
+
+    /// Gives reserved room back: for so many entries, and for so many writes of commits. Its memory stays with the journal, and the next
+    /// `reserve` takes it first. The cost is constant.
+    pub fn release(&mut self, entries: usize, writes: usize)
+        requires entries { entries ≤ self.old.room }
+        requires writes { writes ≤ self.old.write_room }
+        ensures { self.new ≡
+            record self.old { room = self.old.room - entries; write_room = self.old.write_room - writes } }
+    {
+        self.room -= entries;
+        self.write_room -= writes;
     }
 
     /// Appends an entry into reserved room. Of a commit it keeps what it wrote, and leaves the room of writes beyond the first of an
@@ -137,6 +168,7 @@ impl Journal {
     {
         let place = self.entries.len();
         self.entries.append(entry);
+        self.room -= 1;
         if let Entry::Commit { story, commit: _ } = self.entries.at(place) {
             let first = self.writes.len();
             let classes = index_writes(&story.done, place, &mut self.writes, &mut self.newest);
@@ -176,7 +208,7 @@ impl Journal {
     pub fn room(&self) -> usize
         ensures { result ≡ self.now.room }
     {
-        self.entries.room()
+        self.room
     }
 
     /// For how many further writes of commits there is room.

@@ -294,3 +294,13 @@ fn notes_agree_where_each_event_is_told_once_and_in_order(rt: HostRuntime) -> Re
     }
     Ok(())
 }
+
+#[test]
+fn released_room_is_given_back(rt: HostRuntime) -> Result<(), Fail> {
+    let mut journal = Journal::new(rt.alloc());
+    journal.reserve(3, 2)?;
+    journal.release(2, 1);
+    assert_eq!(rt; journal.room(), 1);
+    assert_eq!(rt; journal.write_room(), 1);
+    Ok(())
+}

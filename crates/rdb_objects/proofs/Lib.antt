@@ -15,3 +15,4 @@ pub mod TestLemmas
 pub mod OrderLemmas
 pub mod ListOrder
 pub mod SortLemmas
+pub mod WriteLemmas

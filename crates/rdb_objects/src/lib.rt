@@ -4,6 +4,8 @@
 
 mod chain;
 mod laws;
+#[cfg(test)]
+mod many_tests;
 mod objects;
 #[cfg(test)]
 mod tests;

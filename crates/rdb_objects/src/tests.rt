@@ -1,5 +1,6 @@
 //! Objects put and taken out over cells in plain memory, in one plan.
-ghost use Rattle.std.specs.Prelude.{◌≡◌, ◌↔◌, [], Some, IsTrue, IfOk};
+ghost use Rattle.std.specs.Prelude.{◌≡◌, ◌≤◌, ◌↔◌, [], Some, IsTrue, IfOk, length};
+ghost use Rattle.rdb_pages.specs.Pages.{max_pages};
 ghost use Rattle.rdb_cells.specs.HeadFormat.{class_head_cell, empty_class_head};
 ghost use Rattle.rdb_cells.specs.Memory.{memory_image};
 ghost use Rattle.rdb_cells.specs.Records.{planned};
@@ -20,7 +21,7 @@ use std::alloc::Global;
 use std::process::Abort;
 use std::test::*;
 
-const OBJECTS: Objects = Objects { class: 0 };
+pub(crate) const OBJECTS: Objects = Objects { class: 0 };
 
 const RISING: [u64; 15] = [1, 2, 3, 4, 5, 6, 7, 8, 9, 10, 17, 18, 25, 33, 40];
 
@@ -52,25 +53,39 @@ fn lay<C: Cells>(cells: C, plan: Plan) -> Overlay<C>
     Overlay::over(cells, plan, 0)
 }
 
-/// Returns an empty plan over eight pages of class 0, which has no object.
-fn empty_class(rt: &impl Abort, alloc: Global) -> Result<Overlay<MemoryCells>, NoMemory>
-    ensures class { IfOk result (λ o. o.class ≡ 0) }
-    ensures holds { IfOk result (λ o. HoldsSome (planned o.plan.pairs (memory_image o.cells)) 0) }
+/// Makes pages, and the head of class 0, which has no object.
+pub(crate) fn empty_cells(
+    rt: &impl Abort,
+    alloc: Global,
+    pages: &[u32],
+) -> Result<MemoryCells, NoMemory>
+    requires { length pages.now ≤ max_pages }
+    ensures { IfOk result (λ m. memory_image m (class_head_ref 0).number ≡ Some (class_head_cell empty_class_head)) }
 {
-    let mut cells = MemoryCells::new(alloc, &[0; 8], 1)?;
+    let mut cells = MemoryCells::new(alloc, pages, 1)?;
     let head = class_head(0);
     assert!(rt; cells.holds(head), "no head");
     cells.write(head, ClassHead::empty().to_cell());
     assert_empty_head(rt, &cells);
+    Ok(cells)
+}
+
+/// Returns an empty plan over eight pages of class 0, which has no object.
+pub(crate) fn empty_class(rt: &impl Abort, alloc: Global) -> Result<Overlay<MemoryCells>, NoMemory>
+    ensures class { IfOk result (λ o. o.class ≡ 0) }
+    ensures holds { IfOk result (λ o. HoldsSome (planned o.plan.pairs (memory_image o.cells)) 0) }
+{
+    let cells = empty_cells(rt, alloc, &[0; 8])?;
     let plan = Plan::reserve(alloc, 300)?;
     Ok(lay(cells, plan))
 }
 
 /// Writes a header that leads to the newest version of the object, and adds it.
-fn add<C: Cells>(rt: &impl Abort, cells: &mut Overlay<C>, id: u64, serial: u64)
+pub(crate) fn add<C: Cells>(rt: &impl Abort, cells: &mut Overlay<C>, id: u64, serial: u64)
     requires class { cells.old.class ≡ 0 }
     requires holds { HoldsSome (reading (work C.Cells cells.old)) 0 }
     ensures class { cells.new.class ≡ 0 }
+    ensures below { cells.new.cells ≡ cells.old.cells }
     ensures holds { HoldsSome (reading (work C.Cells cells.new)) 0 }
 {
     assert!(rt; cells.can_take(), "no free cell");
@@ -94,10 +109,11 @@ fn add<C: Cells>(rt: &impl Abort, cells: &mut Overlay<C>, id: u64, serial: u64)
 }
 
 /// Removes the newest version of the object.
-fn remove<C: Cells>(rt: &impl Abort, cells: &mut Overlay<C>, id: u64)
+pub(crate) fn remove<C: Cells>(rt: &impl Abort, cells: &mut Overlay<C>, id: u64)
     requires class { cells.old.class ≡ 0 }
     requires holds { HoldsSome (reading (work C.Cells cells.old)) 0 }
     ensures class { cells.new.class ≡ 0 }
+    ensures below { cells.new.cells ≡ cells.old.cells }
     ensures holds { HoldsSome (reading (work C.Cells cells.new)) 0 }
 {
     assert!(rt; cells.places_left() >= 3, "the plan is full");
@@ -121,9 +137,9 @@ fn assert_ids<C: Cells>(rt: &impl Abort, cells: &Overlay<C>, ids: &[u64], what: 
 }
 
 /// Returns whether there is an object of the id.
-fn is_there<C: Cells>(cells: &Overlay<C>, id: u64) -> bool
-    requires { HoldsSome (reading (work C.Cells cells.now)) 0 }
-    ensures { IsTrue result → HasObject (reading (work C.Cells cells.now)) 0 id }
+pub(crate) fn is_there<C: Cells>(cells: &C, id: u64) -> bool
+    requires { HoldsSome (C.image cells.now) 0 }
+    ensures { IsTrue result → HasObject (C.image cells.now) 0 id }
 {
     match OBJECTS.newest_version(cells, id) {
         Some(_) => true,

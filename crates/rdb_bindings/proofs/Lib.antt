@@ -1,0 +1,12 @@
+pub mod PlaceLemmas
+pub mod SurveyLemmas
+pub mod KeepingLemmas
+pub mod StaticFits
+pub mod CursorFits
+pub mod CallFits
+pub mod ScriptFits
+pub mod LineFits
+pub mod AnswerFits
+pub mod NumberLemmas
+pub mod NotedFits
+pub mod FoldFits

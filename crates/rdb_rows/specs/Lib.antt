@@ -1,0 +1,10 @@
+pub mod Rows
+pub mod Versions
+pub mod Plans
+pub mod Decoded
+pub mod Spots
+pub mod RowKeys
+pub mod KeyLaws
+pub mod Places
+pub mod RowSpots
+pub mod KeySayings
