@@ -12,11 +12,7 @@ use Rattle.rdb_tree.specs.Changes.{CanTake, HasPlaces, IsNewRoot}
 use Rattle.rdb_tree.specs.Growth.{IsWayDown, IsUnderway, IsSettled, IsTreePut}
 use Rattle.rdb_tree.specs.Nature.{IsTree, IsSound, IsRootedAt, most_levels}
 use Rattle.rdb_tree.specs.Order.{AreAscending, is_before}
-<<<<<<< HEAD
 use Rattle.rdb_tree.specs.Trees.{Tree, Empty, Rooted, root_of, levels_of, versions_of}
-=======
-use Rattle.rdb_tree.specs.Trees.{Node, BTree, Tree, Empty, Rooted, root_of, levels_of, versions_of}
->>>>>>> 1bcbee746696ed250d6364c69ddd0a9d1fdd5253
 use Rattle.rdb_tree.specs.Ways.{Leads, GoesOnTo}
 use Rattle.rdb_tree.specs.declared.insert.Raised.{Raised}
 use Rattle.rdb_tree.specs.declared.path.Step.{Step}
