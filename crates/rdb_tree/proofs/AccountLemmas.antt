@@ -1,14 +1,14 @@
 -- What a level more takes of the cells that can be taken, and of the plan.
-use Rattle.std.proofs.Common.{◌≡◌, ◌≢◌, ◌≤◌, ◌+◌, ◌*◌, ◌⊎◌, zero, suc, ℕ, List, [], ◌∷◌, ◌++◌, length, length-append, Option, Some, inl, inr, refl, sym, ap, subst, ◌∙◌, arith}
+use Rattle.std.proofs.Common.{◌≡◌, ◌≢◌, ◌≤◌, ◌+◌, suc, ℕ, List, [], ◌∷◌, ◌++◌, length, length-append, inl, inr, refl, sym, subst, ◌∙◌, arith}
 use Rattle.std.proofs.lemmas.List.{append-nil}
 use Rattle.rdb_pages.specs.declared.cell.Cell.{Cell}
 use Rattle.rdb_pages.specs.declared.cell.CellRef.{CellRef}
 use Rattle.rdb_cells.specs.Links.{IsAmong}
 use Rattle.rdb_cells.specs.Records.{content}
-use Rattle.rdb_cells.specs.Work.{Work, reading, IsLeft, GoesOn, TakesAtMost, TakesNone, TakesLowest}
+use Rattle.rdb_cells.specs.Work.{Work, IsLeft, TakesAtMost, TakesNone, TakesLowest}
 use Rattle.rdb_cells.proofs.LinkLemmas.{among_either, among_front, among_back}
 use Rattle.rdb_cells.proofs.WorkLemmas.{put_says, put_takes_none, put_longer, none_at_most, at_most_then, lowest_none, lowest_then, took_one, took_lowest}
-use Rattle.rdb_tree.specs.Changes.{cell_of, with_cell, with_taken, IsLowest}
+use Rattle.rdb_tree.specs.Changes.{with_cell, with_taken, IsLowest}
 use Rattle.rdb_tree.specs.Growth.{IsAccount}
 
 -- nothing was done

@@ -1,17 +1,13 @@
 -- The tree of an index has become another one: what an index owes of a change.
-use Rattle.std.proofs.Common.{◌≡◌, ◌≢◌, ◌≤◌, ◌+◌, ◌⊎◌, zero, suc, ℕ, List, [], ◌∷◌, ◌++◌, length, Option, Some, IsSome, inl, inr, refl, sym, ap, ap₂, subst, ◌∙◌, arith}
-use Rattle.std.specs.List.{Contains}
-use Rattle.std.specs.Prelude.{IsPermutation}
-use Rattle.rdb_pages.specs.declared.cell.Cell.{Cell}
+use Rattle.std.proofs.Common.{◌≡◌, ◌⊎◌, ℕ, List, ◌∷◌, Some, inl, inr, refl, sym, subst, arith}
 use Rattle.rdb_pages.specs.declared.cell.CellRef.{CellRef}
 use Rattle.rdb_pages.specs.Pages.{zero_cell}
-use Rattle.rdb_cells.specs.declared.kind.Kind.{Kind}
 use Rattle.rdb_cells.specs.declared.kind.Kind.TheVariants as kind
 use Rattle.rdb_cells.specs.HeadFormat.{index_head_cell, rooted_head}
 use Rattle.rdb_cells.specs.Images.{Image}
 use Rattle.rdb_cells.specs.Index.{KeepsAccount, Lists, IsOwn}
-use Rattle.rdb_cells.specs.Keys.{Meaning, Sayings, says, SaySame, SameVersionCells, HasNoVersionCell, RestsOnVersions, ListsVersions}
-use Rattle.rdb_cells.specs.Links.{IsAmong, AreOnce}
+use Rattle.rdb_cells.specs.Keys.{Meaning, says, SameVersionCells, HasNoVersionCell, RestsOnVersions, ListsVersions}
+use Rattle.rdb_cells.specs.Links.{IsAmong}
 use Rattle.rdb_cells.specs.Records.{content}
 use Rattle.rdb_cells.specs.Words.{HasKind}
 use Rattle.rdb_cells.specs.Work.{Work, reading, IsBlank, IsLeft}

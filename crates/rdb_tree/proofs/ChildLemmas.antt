@@ -1,10 +1,9 @@
 -- The children of a node with another one, or two, in the place of one: their roots, their number, what holds of each, and the
 -- versions of the node.
-use Rattle.std.proofs.Common.{◌≡◌, ◌≤◌, ◌<◌, ◌+◌, ◌-◌, zero, suc, ℕ, List, [], ◌∷◌, ◌++◌, length, length-append, take, drop, map, slice_get, Option, Some, refl, sym, ap, ap₂, subst, ◌∙◌, arith}
-use Rattle.std.proofs.lemmas.List.{append_assoc, length-take-le, length-drop}
+use Rattle.std.proofs.Common.{◌≡◌, ◌<◌, ◌+◌, zero, suc, ℕ, List, [], ◌∷◌, ◌++◌, length, take, drop, map, slice_get, Some, refl, sym, ap, ◌∙◌, arith}
 use Rattle.rdb_pages.specs.declared.cell.CellRef.{CellRef}
 use Rattle.rdb_tree.specs.Changes.{raised_keys, raised_children}
-use Rattle.rdb_tree.specs.Trees.{Node, BTree, Each, woven, versions, roots, HasKeys, IsShaped, least_keys}
+use Rattle.rdb_tree.specs.Trees.{BTree, Each, woven, versions, roots}
 use Rattle.rdb_tree.proofs.PartLemmas.{IsParted, parted}
 use Rattle.rdb_tree.proofs.WovenLemmas.{map_there, length_map}
 

@@ -1,8 +1,7 @@
 -- A level further up: what was raised is put into the node of the last step, which has room or is split.
-use Rattle.std.proofs.Common.{◌≡◌, ◌≢◌, ◌≤◌, ◌<◌, ◌+◌, ◌⊎◌, zero, suc, ℕ, List, [], ◌∷◌, ◌++◌, length, take, drop, slice_get, Option, Some, None, Bool, inl, inr, refl, sym, ap, subst, ◌∙◌, arith}
+use Rattle.std.proofs.Common.{◌≡◌, ◌≤◌, ◌+◌, zero, suc, ℕ, List, [], ◌∷◌, ◌++◌, length, take, drop, Option, Some, None, Bool, inl, refl, sym, ap, subst, ◌∙◌, arith}
 use Rattle.std.proofs.lemmas.List.Sums.{prefix_len-le-length}
 use Rattle.std.specs.List.{prefix_len}
-use Rattle.rdb_pages.specs.declared.cell.Cell.{Cell}
 use Rattle.rdb_pages.specs.declared.cell.CellRef.{CellRef}
 use Rattle.rdb_pages.specs.Pages.{zero_cell}
 use Rattle.rdb_cells.specs.declared.kind.Kind.TheVariants as kind
@@ -12,11 +11,11 @@ use Rattle.rdb_cells.specs.Parts.{tree_part}
 use Rattle.rdb_cells.specs.Work.{Work, reading, IsLeft, HasLeft}
 use Rattle.rdb_cells.proofs.IndexLemmas.{fewer_than}
 use Rattle.rdb_cells.proofs.PlainLemmas.{one_kind}
-use Rattle.rdb_cells.proofs.WorkLemmas.{put_work, take_work, put_reads, left_blank, one_left}
+use Rattle.rdb_cells.proofs.WorkLemmas.{take_work, put_reads, left_blank, one_left}
 use Rattle.rdb_tree.specs.Changes.{cell_of, with_cell, with_taken, split_work, raised_keys, raised_children, IsNodeAt, CanTake, HasPlaces, PutsInto, IsPutInto, IsSplit}
-use Rattle.rdb_tree.specs.Growth.{IsGrown, HasGrown, IsRaised, IsAccount, IsWayDown, IsUnderway, IsSettled, IsPutUpTo}
+use Rattle.rdb_tree.specs.Growth.{IsRaised, IsAccount, IsWayDown, IsUnderway, IsSettled, IsPutUpTo}
 use Rattle.rdb_tree.specs.TreeLaws.{all_nodes}
-use Rattle.rdb_tree.specs.Trees.{Node, BTree, Below, Tree, Empty, Rooted, levels_of, versions, cells, cells_of, roots, Stands, IsShaped, TreeStands}
+use Rattle.rdb_tree.specs.Trees.{BTree, Below, Tree, Empty, Rooted, levels_of, cells, cells_of, roots, TreeStands}
 use Rattle.rdb_tree.specs.Ways.{Leads}
 use Rattle.rdb_tree.specs.declared.insert.Raised.{Raised}
 use Rattle.rdb_tree.specs.declared.path.Step.{Step}

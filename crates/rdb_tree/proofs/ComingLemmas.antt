@@ -1,11 +1,11 @@
 -- A version that comes to its place in a part comes to its place in the whole.
-use Rattle.std.proofs.Common.{◌≡◌, ◌+◌, ◌<◌, zero, suc, ℕ, List, [], ◌∷◌, ◌++◌, length, take, drop, cond, map, slice_get, Option, Some, Bool, true, false, refl, sym, ap, subst, ◌∙◌, arith}
+use Rattle.std.proofs.Common.{◌≡◌, ◌+◌, zero, suc, ℕ, List, [], ◌∷◌, ◌++◌, take, drop, cond, map, Bool, true, false, refl, sym, ap, ◌∙◌, arith}
 use Rattle.std.proofs.lemmas.List.{append_assoc, take-append-drop}
 use Rattle.std.specs.List.{prefix_len}
 use Rattle.rdb_pages.specs.declared.cell.CellRef.{CellRef}
 use Rattle.rdb_tree.specs.Changes.{raised_keys}
 use Rattle.rdb_tree.specs.Growth.{ComesTo}
-use Rattle.rdb_tree.specs.Trees.{Node, BTree, Each, woven, versions}
+use Rattle.rdb_tree.specs.Trees.{BTree, Each, woven, versions}
 use Rattle.rdb_tree.specs.Ways.{IsCut}
 use Rattle.rdb_tree.proofs.ChildLemmas.{with_another, with_two, map_another, map_two}
 use Rattle.rdb_tree.proofs.PlaceLemmas.{IsAtCut}

@@ -1,5 +1,5 @@
 -- The versions with a key, among keys that are woven with what stands between them.
-use Rattle.std.proofs.Common.{◌≡◌, ◌≤◌, ◌<◌, ◌+◌, ◌-◌, zero, suc, ℕ, List, [], ◌∷◌, ◌++◌, length, drop, map, slice_get, get_or, Option, Some, None, Bool, true, false, cond, refl, sym, ap, ap₂, subst, ◌∙◌, arith}
+use Rattle.std.proofs.Common.{◌≡◌, ◌≤◌, ◌<◌, ◌+◌, zero, suc, ℕ, List, [], ◌∷◌, ◌++◌, length, drop, slice_get, get_or, Option, Some, None, Bool, true, false, cond, refl, sym, ap, ap₂, subst, ◌∙◌, arith}
 use Rattle.std.proofs.lemmas.Bool.{false≢true}
 use Rattle.std.proofs.lemmas.List.{append_assoc, append-nil}
 use Rattle.std.proofs.lemmas.List.Elements.{filter-append}
@@ -9,16 +9,14 @@ use Rattle.std.specs.declared.cmp.Ordering.{Ordering}
 use Rattle.std.specs.declared.cmp.Ordering.TheVariants.{Less, Equal, Greater}
 use Rattle.rdb_base.specs.declared.value.Value.{Value}
 use Rattle.rdb_pages.specs.declared.cell.CellRef.{CellRef}
-use Rattle.rdb_cells.specs.Images.{Image}
 use Rattle.rdb_cells.specs.Keys.{Sayings}
 use Rattle.rdb_tree.specs.Lookups.{has_key}
 use Rattle.rdb_tree.specs.Order.{AreKeyed, AreAscending, goes, order_against}
-use Rattle.rdb_tree.specs.Trees.{Node, BTree, Each, woven, versions, IsTreeAt}
-use Rattle.rdb_tree.proofs.GatherLemmas.{IsChild, parts_of, woven_is, drop_there, drop_end, get_is}
+use Rattle.rdb_tree.specs.Trees.{BTree, Each, woven, versions}
+use Rattle.rdb_tree.proofs.GatherLemmas.{parts_of, woven_is, drop_there, drop_end, get_is}
 use Rattle.rdb_tree.proofs.OrderLemmas.{less_cuts, up_to_cuts}
 use Rattle.rdb_tree.proofs.SeekLemmas.{keep_none, keep_one, all_before, cut_back}
-use Rattle.rdb_tree.specs.Ways.{IsCut}
-use Rattle.rdb_tree.proofs.WovenLemmas.{each_front, each_back, part_of, keyed_part, ascending_back, key_within, length_map}
+use Rattle.rdb_tree.proofs.WovenLemmas.{part_of, keyed_part, ascending_back, key_within}
 
 each_so : (P Q : CellRef → Type 0) → ((r : CellRef) → P r → Q r) → (rs : List CellRef) → Each P rs → Each Q rs
 each_so P Q so [] each = tt

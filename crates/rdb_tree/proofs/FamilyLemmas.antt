@@ -1,11 +1,11 @@
 -- Trees side by side below a node, of which one is changed, or split in two: the others still stand.
-use Rattle.std.proofs.Common.{◌≡◌, zero, suc, ℕ, List, [], ◌∷◌, ◌++◌, take, drop, slice_get, Option, Some, sym, subst}
+use Rattle.std.proofs.Common.{◌≡◌, zero, suc, ℕ, List, [], ◌∷◌, slice_get, Some, sym, subst}
 use Rattle.std.specs.List.{flat_map}
 use Rattle.rdb_cells.specs.Images.{Image}
 use Rattle.rdb_cells.specs.Links.{IsAmong, AreOnce, SameOn}
 use Rattle.rdb_cells.proofs.LinkLemmas.{among_front, among_back, once_parts}
 use Rattle.rdb_tree.specs.TreeLaws.{still_stands}
-use Rattle.rdb_tree.specs.Trees.{Node, BTree, Each, cells, Stands}
+use Rattle.rdb_tree.specs.Trees.{BTree, Each, cells, Stands}
 use Rattle.rdb_tree.proofs.ChildLemmas.{with_another, with_two}
 use Rattle.rdb_tree.proofs.WovenLemmas.{own_cells}
 

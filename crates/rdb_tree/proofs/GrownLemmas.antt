@@ -1,13 +1,13 @@
 -- A tree into which a version came, in the same root cell: so did it into the tree above.
-use Rattle.std.proofs.Common.{◌≡◌, ◌⊎◌, ◌+◌, zero, suc, ℕ, List, [], ◌∷◌, ◌++◌, length, map, slice_get, Option, Some, Bool, true, false, inl, inr, refl, sym, ap, subst, ◌∙◌, ◌≤◌, arith}
+use Rattle.std.proofs.Common.{◌≡◌, ◌+◌, zero, suc, ℕ, List, [], ◌∷◌, ◌++◌, length, map, slice_get, Some, Bool, inl, inr, refl, sym, ap, subst, ◌∙◌, ◌≤◌, arith}
 use Rattle.std.specs.List.{flat_map, prefix_len}
 use Rattle.rdb_pages.specs.declared.cell.CellRef.{CellRef}
 use Rattle.rdb_cells.specs.Images.{Image}
 use Rattle.rdb_cells.specs.Links.{IsAmong, AreOnce, AreDisjoint}
 use Rattle.rdb_cells.proofs.LinkLemmas.{once_parts}
 use Rattle.rdb_tree.specs.Changes.{cell_of}
-use Rattle.rdb_tree.specs.Growth.{ComesTo, AddsCells, IsGrown, HasGrown}
-use Rattle.rdb_tree.specs.Trees.{Node, BTree, Each, Tree, Empty, Rooted, levels_of, woven, versions, cells, roots, Stands, IsShaped, least_keys}
+use Rattle.rdb_tree.specs.Growth.{IsGrown, HasGrown}
+use Rattle.rdb_tree.specs.Trees.{BTree, Tree, Empty, Rooted, levels_of, versions, cells, Stands, IsShaped, least_keys}
 use Rattle.rdb_tree.specs.Ways.{IsCut, Leads}
 use Rattle.rdb_tree.specs.declared.path.Step.{Step}
 use Rattle.rdb_tree.proofs.ChangeLemmas.{below_there}

@@ -1,12 +1,12 @@
 -- The halves of an overfull node: their shape, their roots, what stands of them, their versions and their cells.
-use Rattle.std.proofs.Common.{◌≡◌, ◌≤◌, ◌<◌, ◌+◌, ◌-◌, zero, suc, ℕ, List, [], ◌∷◌, ◌++◌, length, take, drop, map, slice_get, Option, Some, refl, sym, ap, ap₂, subst, ◌∙◌, arith}
-use Rattle.std.proofs.lemmas.List.{append_assoc, length-take-le, length-drop, take-append-drop}
+use Rattle.std.proofs.Common.{◌≡◌, zero, suc, ℕ, List, [], ◌∷◌, ◌++◌, length, take, drop, map, slice_get, Some, sym, ap, ap₂, ◌∙◌, arith}
+use Rattle.std.proofs.lemmas.List.{length-take-le, length-drop, take-append-drop}
 use Rattle.std.proofs.lemmas.List.Concat.{flat_map-append}
 use Rattle.std.specs.List.{flat_map}
 use Rattle.rdb_pages.specs.declared.cell.CellRef.{CellRef}
 use Rattle.rdb_cells.specs.Images.{Image}
 use Rattle.rdb_tree.specs.Changes.{cell_of}
-use Rattle.rdb_tree.specs.Trees.{Node, BTree, Below, Each, woven, versions, cells, roots, Stands, HasKeys, IsShaped, least_keys}
+use Rattle.rdb_tree.specs.Trees.{BTree, Below, Each, woven, versions, cells, roots, Stands, HasKeys, IsShaped, least_keys}
 use Rattle.rdb_tree.proofs.ChildLemmas.{each_take, each_drop, map_take, map_drop}
 use Rattle.rdb_tree.proofs.GatherLemmas.{drop_there}
 use Rattle.rdb_tree.proofs.PartLemmas.{woven_between}

@@ -1,11 +1,11 @@
 -- The root that a tree's head leads to.
-use Rattle.std.proofs.Common.{◌≡◌, ℕ, List, [], ◌∷◌, slice_get, Option, Some, refl, sym, ap, subst, ◌∙◌, rules}
+use Rattle.std.proofs.Common.{◌≡◌, ℕ, slice_get, Option, Some, refl, sym, ap, ◌∙◌}
 use Rattle.std.specs.Option.{option_map_or}
 use Rattle.rdb_pages.specs.declared.cell.Cell.{Cell}
 use Rattle.rdb_pages.specs.declared.cell.CellRef.{CellRef}
 use Rattle.rdb_cells.specs.declared.formats.heads.IndexHead.{IndexHead}
 use Rattle.rdb_cells.specs.HeadFormat.{index_head_cell, index_head_in, rooted_head}
-use Rattle.rdb_cells.specs.Images.{Image, IsCell}
+use Rattle.rdb_cells.specs.Images.{Image}
 use Rattle.rdb_cells.proofs.FormatLemmas.{index_head_back}
 
 pub one_cell : (image : Image) (n : ℕ) (c d : Cell) → image n ≡ Some c → image n ≡ Some d → c ≡ d

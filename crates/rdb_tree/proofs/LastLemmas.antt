@@ -1,5 +1,5 @@
 -- The last version of a tree goes.
-use Rattle.std.proofs.Common.{◌≡◌, ◌≢◌, ◌≤◌, ◌<◌, ◌+◌, ◌-◌, ◌*◌, zero, suc, ℕ, List, [], ◌∷◌, ◌++◌, length, length-append, take, drop, map, slice_get, Option, Some, Bool, true, false, refl, sym, ap, ap₂, subst, ◌∙◌, arith}
+use Rattle.std.proofs.Common.{◌≡◌, ◌<◌, ◌+◌, ◌-◌, ◌*◌, zero, suc, ℕ, List, [], ◌∷◌, ◌++◌, length, take, drop, map, slice_get, Option, Some, true, false, refl, sym, ap, ap₂, subst, ◌∙◌, arith}
 use Rattle.std.proofs.lemmas.Bool.{false≢true}
 use Rattle.std.proofs.lemmas.List.{append_assoc, append-nil}
 use Rattle.std.specs.Option.{unwrap_or}
@@ -9,11 +9,11 @@ use Rattle.rdb_cells.specs.Words.{no_ref}
 use Rattle.rdb_cells.specs.Work.{Work, reading}
 use Rattle.rdb_tree.specs.Changes.{cell_of, with_cell, HasPlaces}
 use Rattle.rdb_tree.specs.Losses.{Leaves, IsShort, HasMended, IsBranch, HasLost, HasLostLast}
-use Rattle.rdb_tree.specs.Trees.{Node, BTree, Each, woven, versions, cells, roots, is_empty, IsShaped, least_keys}
+use Rattle.rdb_tree.specs.Trees.{BTree, woven, versions, cells, roots, is_empty, least_keys}
 use Rattle.rdb_tree.proofs.ChildLemmas.{with_another, map_another, same_another}
 use Rattle.rdb_tree.proofs.LossLemmas.{IsReduced, leaf_lost, branch_child, child_reduced, child_list, reduced_mended, reduced_list}
 use Rattle.rdb_tree.proofs.MendLemmas.{plain_within}
-use Rattle.rdb_tree.proofs.SiblingLemmas.{HasLast, has_last}
+use Rattle.rdb_tree.proofs.SiblingLemmas.{has_last}
 use Rattle.rdb_tree.proofs.WovenLemmas.{there, map_there, length_map}
 
 -- a node has a child where it isn't a leaf

@@ -1,5 +1,5 @@
 -- How many cells and versions a tree has for its height.
-use Rattle.std.proofs.Common.{◌≡◌, ◌≤◌, ◌<◌, ◌+◌, ◌*◌, ◌^◌, zero, suc, ℕ, List, [], ◌∷◌, ◌++◌, length, length-append, map, inl, inr, refl, sym, ap, subst, ◌∙◌, arith}
+use Rattle.std.proofs.Common.{◌≡◌, ◌≤◌, ◌<◌, ◌+◌, ◌*◌, ◌^◌, zero, suc, ℕ, List, [], ◌∷◌, length, length-append, map, inl, inr, refl, sym, ap, subst, arith}
 use Rattle.std.proofs.lemmas.Bool.{cases_lt}
 use Rattle.std.proofs.lemmas.List.{append-nil}
 use Rattle.std.proofs.Math.Nat.{mul-le-mul_left, pow-le-pow_right, pow-suc}
@@ -12,7 +12,7 @@ use Rattle.rdb_cells.specs.References.{IsPageCell}
 use Rattle.rdb_cells.proofs.LinkLemmas.{few_below}
 use Rattle.rdb_tree.specs.Nature.{IsTree, IsSound, IsRootedAt, most_levels}
 use Rattle.rdb_tree.specs.Order.{AreKeyed}
-use Rattle.rdb_tree.specs.Trees.{Node, BTree, Each, Tree, Empty, Rooted, woven, versions, versions_of, cells, cells_of, levels_of, root_of, HasKeys, IsShaped, IsBTree, least_keys, AreLevels}
+use Rattle.rdb_tree.specs.Trees.{BTree, Each, Tree, Empty, Rooted, woven, versions, versions_of, cells, cells_of, levels_of, root_of, IsShaped, IsBTree, least_keys, AreLevels}
 use Rattle.rdb_tree.proofs.WovenLemmas.{length_map}
 
 each_map : {X Y : Type 0} (P : Y → Type 0) (f : X → Y) (xs : List X) → Each (λ x. P (f x)) xs → Each P (map f xs)

@@ -1,12 +1,12 @@
 -- Where a listed version stands: among a node's keys, at the place behind those before it, or below the child at that place.
-use Rattle.std.proofs.Common.{◌≡◌, ◌≢◌, ◌≤◌, ◌<◌, ◌+◌, ◌⊎◌, zero, suc, ℕ, List, [], ◌∷◌, ◌++◌, length, cond, slice_get, Option, Some, None, IsSome, Bool, true, false, inl, inr, refl, sym, ap, ap₂, subst, ◌∙◌, arith}
+use Rattle.std.proofs.Common.{◌≡◌, ◌≢◌, ◌+◌, ◌⊎◌, zero, suc, ℕ, List, [], ◌∷◌, ◌++◌, length, cond, slice_get, Option, Some, IsSome, Bool, true, false, inl, inr, refl, sym, ap, ap₂, subst, ◌∙◌, arith}
 use Rattle.std.proofs.lemmas.Bool.{false≢true}
 use Rattle.std.proofs.lemmas.List.{append-nil}
 use Rattle.std.proofs.lemmas.List.Elements.{Contains-append_right}
 use Rattle.std.specs.List.{Contains, prefix_len}
 use Rattle.std.specs.Ordering.{is_lt, is_some_and, ordering_reverse}
 use Rattle.std.specs.declared.cmp.Ordering.{Ordering}
-use Rattle.std.specs.declared.cmp.Ordering.TheVariants.{Less, Equal, Greater}
+use Rattle.std.specs.declared.cmp.Ordering.TheVariants.{Less}
 use Rattle.rdb_pages.specs.declared.cell.CellRef.{CellRef}
 use Rattle.rdb_cells.specs.Keys.{Version, Sayings, version_order}
 use Rattle.rdb_cells.proofs.ListedLemmas.{contains_either, contains_later}
@@ -14,7 +14,7 @@ use Rattle.rdb_cells.proofs.VersionOrder.{version_order_total}
 use Rattle.rdb_tree.specs.Order.{IsBefore, AreAscending, is_before, order_of_both}
 use Rattle.rdb_tree.specs.Trees.{Each, woven}
 use Rattle.rdb_tree.proofs.VersionLemmas.{some_version, goes_before}
-use Rattle.rdb_tree.proofs.WovenLemmas.{each_back, ascending_front, ascending_back}
+use Rattle.rdb_tree.proofs.WovenLemmas.{each_back, ascending_back}
 
 contains_split : (xs ys : List CellRef) (r : CellRef) → Contains (xs ++ ys) r → Contains xs r ⊎ Contains ys r
 contains_split [] ys r within = inr within

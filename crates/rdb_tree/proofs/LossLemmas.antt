@@ -1,29 +1,28 @@
 -- A version leaves a tree: a leaf that loses it, a node whose child did, and what mending makes of that.
-use Rattle.std.proofs.Common.{◌≡◌, ◌≢◌, ◌≤◌, ◌<◌, ◌+◌, ◌-◌, ◌*◌, ◌⊎◌, zero, suc, ℕ, List, [], ◌∷◌, ◌++◌, length, length-append, take, drop, map, get_or, slice_get, Option, Some, Bool, true, false, inl, inr, refl, sym, ap, ap₂, subst, ◌∙◌, arith}
-use Rattle.std.proofs.lemmas.List.{append_assoc, append-nil, length-take-le, length-drop}
+use Rattle.std.proofs.Common.{◌≡◌, ◌≢◌, ◌<◌, ◌+◌, ◌⊎◌, zero, suc, ℕ, List, [], ◌∷◌, ◌++◌, length, length-append, take, drop, map, slice_get, Some, true, inl, inr, refl, sym, ap, subst, ◌∙◌, arith}
+use Rattle.std.proofs.lemmas.List.{append_assoc, length-take-le}
 use Rattle.std.specs.List.{flat_map}
-use Rattle.rdb_pages.specs.declared.cell.Cell.{Cell}
 use Rattle.rdb_pages.specs.declared.cell.CellRef.{CellRef}
 use Rattle.rdb_pages.specs.Pages.{zero_cell}
 use Rattle.rdb_cells.specs.Images.{Image}
 use Rattle.rdb_cells.specs.Links.{IsAmong, AreOnce}
-use Rattle.rdb_cells.specs.Work.{Work, reading, IsLeft}
+use Rattle.rdb_cells.specs.Work.{Work, reading}
 use Rattle.rdb_cells.proofs.LinkLemmas.{among_or_not}
 use Rattle.rdb_cells.proofs.WorkLemmas.{put_reads, none_then}
-use Rattle.rdb_tree.specs.Changes.{cell_of, with_cell, IsNodeAt, without, replaced_at}
-use Rattle.rdb_tree.specs.Losses.{Leaves, DropsCells, StaysOutside, IsLess, IsPlain, IsShort, IsMended, HasMended, IsBranch, HasLost, HasLostLast}
+use Rattle.rdb_tree.specs.Changes.{cell_of, with_cell, IsNodeAt}
+use Rattle.rdb_tree.specs.Losses.{Leaves, DropsCells, StaysOutside, IsPlain, IsShort, HasMended, IsBranch, HasLost}
 use Rattle.rdb_tree.specs.TreeLaws.{still_stands}
-use Rattle.rdb_tree.specs.Trees.{Node, BTree, Each, Rooted, woven, versions, cells, roots, Stands, HasKeys, IsShaped, least_keys}
+use Rattle.rdb_tree.specs.Trees.{BTree, Rooted, woven, versions, cells, roots, Stands, IsShaped, least_keys}
 use Rattle.rdb_tree.proofs.ChangeLemmas.{below_there}
-use Rattle.rdb_tree.proofs.ChildLemmas.{with_another, each_take, each_drop, length_another, map_another, another_roots, same_another}
+use Rattle.rdb_tree.proofs.ChildLemmas.{with_another, each_take, each_drop, length_another, map_another, another_roots}
 use Rattle.rdb_tree.proofs.ClimbLemmas.{node_spent}
 use Rattle.rdb_tree.proofs.FamilyLemmas.{others_still}
 use Rattle.rdb_tree.proofs.GrownLemmas.{once_own}
-use Rattle.rdb_tree.proofs.MendLemmas.{plain_first, plain_put, plain_within}
+use Rattle.rdb_tree.proofs.MendLemmas.{plain_first, plain_put}
 use Rattle.rdb_tree.proofs.MiddleLemmas.{ahead, behind, cells_another, cells_at}
-use Rattle.rdb_tree.proofs.NodeLemmas.{few_keys, roots_fit, stands_held, own_cell}
+use Rattle.rdb_tree.proofs.NodeLemmas.{few_keys, roots_fit, stands_held}
 use Rattle.rdb_tree.proofs.PairLemmas.{drops_between}
-use Rattle.rdb_tree.proofs.PartLemmas.{IsParted, parted, woven_append}
+use Rattle.rdb_tree.proofs.PartLemmas.{IsParted, parted}
 use Rattle.rdb_tree.proofs.WovenLemmas.{each_at, map_there, length_map, own_cells}
 
 pub plain_then : (a b c : Work) (own inner : List ℕ) (m k : ℕ) → IsPlain a b own m → IsPlain b c inner k → ((n : ℕ) → IsAmong inner n → IsAmong own n) → IsPlain a c own (m + k)

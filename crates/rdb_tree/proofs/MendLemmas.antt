@@ -1,28 +1,23 @@
 -- A node is mended by a pair of its children: they share a key, or merge.
-use Rattle.std.proofs.Common.{◌≡◌, ◌≢◌, ◌≤◌, ◌<◌, ◌+◌, ◌-◌, ◌⊎◌, zero, suc, ℕ, List, [], ◌∷◌, ◌++◌, length, length-append, take, drop, map, get_or, slice_get, Option, Some, inl, inr, refl, sym, ap, ap₂, subst, ◌∙◌, arith}
-use Rattle.std.proofs.lemmas.List.{append_assoc, append-nil, map-append, take-append-drop}
+use Rattle.std.proofs.Common.{◌≡◌, ◌≢◌, ◌≤◌, ◌+◌, ◌-◌, zero, suc, ℕ, List, [], ◌∷◌, ◌++◌, length, take, drop, slice_get, Some, inl, inr, refl, sym, ap, subst, ◌∙◌, arith}
+use Rattle.std.proofs.lemmas.List.{append_assoc, map-append, take-append-drop}
 use Rattle.std.proofs.lemmas.List.Concat.{flat_map-append}
 use Rattle.std.specs.List.{flat_map}
 use Rattle.rdb_pages.specs.declared.cell.Cell.{Cell}
 use Rattle.rdb_pages.specs.declared.cell.CellRef.{CellRef}
 use Rattle.rdb_pages.specs.Pages.{zero_cell}
-use Rattle.rdb_cells.specs.Images.{Image, Writes}
-use Rattle.rdb_cells.specs.Links.{IsAmong, AreOnce, AreDisjoint}
-use Rattle.rdb_cells.specs.Words.{no_ref}
-use Rattle.rdb_cells.specs.Work.{Work, reading, IsLeft, TakesNone}
-use Rattle.rdb_cells.proofs.LinkLemmas.{among_either, among_front, among_back, once_parts, once_together}
+use Rattle.rdb_cells.specs.Images.{Image}
+use Rattle.rdb_cells.specs.Links.{IsAmong, AreOnce}
+use Rattle.rdb_cells.specs.Work.{Work, reading, IsLeft}
 use Rattle.rdb_cells.proofs.WorkLemmas.{put_reads, put_says, put_takes_none, put_longer, none_then}
-use Rattle.rdb_tree.specs.Changes.{cell_of, with_cell, FitsKeys, IsNodeAt, Siblings, replaced_at, without, shared_left, shared_right, merged}
-use Rattle.rdb_tree.specs.Losses.{DropsCells, StaysOutside, IsPlain, IsShort, IsMended, HasMended}
-use Rattle.rdb_tree.specs.Trees.{Node, BTree, Below, Each, Rooted, woven, versions, cells, roots, Stands, HasKeys, IsShaped, least_keys}
+use Rattle.rdb_tree.specs.Changes.{cell_of, with_cell, replaced_at, without}
+use Rattle.rdb_tree.specs.Losses.{DropsCells, IsPlain}
+use Rattle.rdb_tree.specs.Trees.{BTree, Each, cells, roots, Stands, IsShaped, least_keys}
 use Rattle.rdb_tree.proofs.ChildLemmas.{each_take, each_drop, map_take, map_drop}
-use Rattle.rdb_tree.proofs.ClimbLemmas.{node_spent}
 use Rattle.rdb_tree.proofs.FamilyLemmas.{all_still}
-use Rattle.rdb_tree.proofs.NodeLemmas.{few_keys, roots_fit, stands_held, own_cell}
-use Rattle.rdb_tree.proofs.PairLemmas.{behind_part, woven_first, cells_around, mended}
 use Rattle.rdb_tree.proofs.ShiftLemmas.{moved_behind, moved_before, gone_one}
-use Rattle.rdb_tree.proofs.SiblingLemmas.{left_less, right_more, left_more, right_less, both_joined, left_list, right_list, joined_list, left_shapes, right_shapes, joined_shape}
-use Rattle.rdb_tree.proofs.WovenLemmas.{each_both, each_front, each_back, length_map}
+use Rattle.rdb_tree.proofs.SiblingLemmas.{left_less, right_more, left_more, right_less, both_joined}
+use Rattle.rdb_tree.proofs.WovenLemmas.{each_both, length_map}
 
 -- the account of puts
 pub plain_first : (before : Work) (own : List ℕ) → IsPlain before before own 0

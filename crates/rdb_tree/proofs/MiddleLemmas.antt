@@ -1,12 +1,12 @@
 -- Cells between others, where those between change; and the cells of a node's children with another one, or two, in the place of one.
-use Rattle.std.proofs.Common.{◌≡◌, ◌⊎◌, zero, suc, ℕ, List, [], ◌∷◌, ◌++◌, take, drop, slice_get, Option, Some, inl, inr, refl, sym, ap, subst, ◌∙◌}
+use Rattle.std.proofs.Common.{◌≡◌, ◌⊎◌, suc, ℕ, List, ◌∷◌, ◌++◌, take, drop, slice_get, Some, inl, inr, sym, ap, subst, ◌∙◌}
 use Rattle.std.proofs.lemmas.List.{append_assoc}
 use Rattle.std.proofs.lemmas.List.Concat.{flat_map-append}
 use Rattle.std.specs.List.{flat_map}
 use Rattle.rdb_cells.specs.Links.{IsAmong, AreOnce, AreDisjoint}
 use Rattle.rdb_cells.proofs.LinkLemmas.{among_either, among_front, among_back, once_parts, once_together}
 use Rattle.rdb_tree.specs.Growth.{AddsCells}
-use Rattle.rdb_tree.specs.Trees.{Node, BTree, cells}
+use Rattle.rdb_tree.specs.Trees.{BTree, cells}
 use Rattle.rdb_tree.proofs.ChildLemmas.{with_another, with_two, same_another}
 
 module _ (front back was now fresh : List ℕ) (adds : AddsCells fresh was now) where

@@ -1,16 +1,14 @@
 -- The node of a tree as it is read from its cell.
-use Rattle.std.proofs.Common.{◌≡◌, ◌≤◌, ◌<◌, ◌+◌, ◌-◌, ◌⊎◌, zero, suc, ℕ, List, [], ◌∷◌, ◌++◌, length, length-append, take, map, Bool, true, false, Option, Some, IsSome, inl, inr, refl, sym, ap, subst, ◌∙◌, arith, rules}
+use Rattle.std.proofs.Common.{◌≡◌, ◌≤◌, ◌+◌, ◌-◌, ◌⊎◌, zero, suc, ℕ, List, [], ◌∷◌, length, length-append, Option, Some, IsSome, inl, inr, refl, sym, subst, ◌∙◌, arith, rules}
 use Rattle.std.proofs.lemmas.List.{take_at, length-replicate}
-use Rattle.std.specs.List.{flat_map}
 use Rattle.std.specs.Prelude.{replicate}
 use Rattle.rdb_pages.specs.declared.cell.Cell.{Cell}
 use Rattle.rdb_pages.specs.declared.cell.CellRef.{CellRef}
-use Rattle.rdb_cells.specs.declared.formats.tree.TreeNode.{TreeNode}
 use Rattle.rdb_cells.specs.Images.{Image, IsCell}
 use Rattle.rdb_cells.specs.Links.{IsAmong}
-use Rattle.rdb_cells.specs.TreeFormat.{IsTreeNode, tree_node_cell, most_keys, most_children}
+use Rattle.rdb_cells.specs.TreeFormat.{IsTreeNode}
 use Rattle.rdb_cells.specs.Words.{no_ref}
-use Rattle.rdb_tree.specs.Trees.{Node, BTree, Below, Each, Tree, Empty, Rooted, cells, roots, node_with, padded, keys_in, children_in, is_empty, Holds, Stands, HasKeys, IsShaped, least_keys}
+use Rattle.rdb_tree.specs.Trees.{BTree, cells, roots, node_with, padded, keys_in, children_in, Holds, Stands, HasKeys, IsShaped, least_keys}
 use Rattle.rdb_tree.proofs.WovenLemmas.{length_map}
 
 length_padded : (places : ℕ) (refs : List CellRef) → length refs ≤ places → length (padded places refs) ≡ places

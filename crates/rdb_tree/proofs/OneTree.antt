@@ -1,18 +1,14 @@
 -- One image holds one tree at a root: two that stand there list the same.
-use Rattle.std.proofs.Common.{◌≡◌, ◌≢◌, ◌≤◌, ◌<◌, ◌+◌, zero, suc, ℕ, List, [], ◌∷◌, length, map, Option, Some, false, true, refl, sym, ap, ap₂, subst, ◌∙◌, arith}
-use Rattle.std.proofs.lemmas.Bool.{false≢true}
-use Rattle.std.specs.Option.{option_map_or}
-use Rattle.rdb_pages.specs.declared.cell.Cell.{Cell}
+use Rattle.std.proofs.Common.{◌≡◌, zero, suc, ℕ, List, [], ◌∷◌, length, map, Some, refl, sym, ap, ap₂, subst, ◌∙◌, arith}
 use Rattle.rdb_pages.specs.declared.cell.CellRef.{CellRef}
-use Rattle.rdb_cells.specs.declared.formats.tree.TreeNode.{TreeNode}
 use Rattle.rdb_cells.specs.declared.formats.heads.IndexHead.{IndexHead}
 use Rattle.rdb_cells.specs.HeadFormat.{index_head_cell, index_head_in, rooted_head}
 use Rattle.rdb_cells.specs.Images.{Image}
 use Rattle.rdb_cells.specs.Keys.{Sayings}
-use Rattle.rdb_cells.specs.TreeFormat.{IsTreeNode, tree_node_cell, tree_node_in}
+use Rattle.rdb_cells.specs.TreeFormat.{tree_node_cell, tree_node_in}
 use Rattle.rdb_cells.proofs.FormatLemmas.{tree_node_back}
-use Rattle.rdb_tree.specs.Nature.{IsTree, IsSound, IsRootedAt}
-use Rattle.rdb_tree.specs.Trees.{Node, BTree, Each, Tree, Empty, Rooted, root_of, woven, versions, versions_of, roots, node_with, keys_in, children_in, is_empty, Stands, IsShaped, least_keys}
+use Rattle.rdb_tree.specs.Nature.{IsTree, IsSound}
+use Rattle.rdb_tree.specs.Trees.{BTree, Each, Tree, Empty, Rooted, root_of, woven, versions, versions_of, roots, node_with, keys_in, children_in, Stands, IsShaped, least_keys}
 use Rattle.rdb_tree.proofs.HeadLemmas.{one_cell}
 use Rattle.rdb_tree.proofs.LevelLemmas.{tree_sound}
 use Rattle.rdb_tree.proofs.NodeLemmas.{keys_back, children_back, roots_fit, looser, own_cell, proper, stands_held}

@@ -1,5 +1,5 @@
 -- The order of versions against a place: those on its near side stand in front.
-use Rattle.std.proofs.Common.{◌≡◌, ℕ, cond, ap₂, List, [], ◌∷◌, Option, Some, None, IsSome, Bool, true, false, not, refl, sym, ap, subst, ◌∙◌, nat_cmp}
+use Rattle.std.proofs.Common.{◌≡◌, ℕ, cond, ap₂, List, [], ◌∷◌, Option, Some, None, IsSome, Bool, true, false, not, refl, sym, ap, ◌∙◌, nat_cmp}
 use Rattle.std.proofs.lemmas.Bool.{false≢true}
 use Rattle.std.proofs.lemmas.Cmp.{nat_cmp_total, on_total, then_total, upto}
 use Rattle.std.specs.Cmp.{IsTotalOrder}
@@ -21,7 +21,6 @@ use Rattle.rdb_tree.specs.Trees.{Each}
 use Rattle.rdb_tree.proofs.SeekLemmas.{sought, beyond}
 use Rattle.rdb_tree.specs.Ways.{IsCut}
 use Rattle.rdb_cells.proofs.ListedLemmas.{contains_first, contains_later}
-use Rattle.rdb_cells.proofs.VersionOrder.{version_order_total}
 
 gt_or_le : (o : Ordering) → is_gt o ≡ not (is_le o)
 gt_or_le Less = refl

@@ -1,24 +1,23 @@
 -- What comes of a node whose pair of children shares a key, or merges.
-use Rattle.std.proofs.Common.{◌≡◌, ◌≢◌, ◌≤◌, ◌<◌, ◌+◌, ◌-◌, ◌⊎◌, zero, suc, ℕ, List, [], ◌∷◌, ◌++◌, length, length-append, take, drop, map, get_or, slice_get, Option, Some, true, inl, inr, refl, sym, ap, ap₂, subst, ◌∙◌, arith}
-use Rattle.std.proofs.lemmas.List.{append_assoc, append-nil, map-append}
+use Rattle.std.proofs.Common.{◌≡◌, ◌≢◌, ◌≤◌, ◌<◌, ◌+◌, ◌-◌, ◌⊎◌, zero, suc, ℕ, List, [], ◌∷◌, ◌++◌, length, take, drop, map, get_or, Some, true, inl, inr, refl, sym, ap, ap₂, subst, ◌∙◌, arith}
+use Rattle.std.proofs.lemmas.List.{append_assoc, map-append}
 use Rattle.std.specs.List.{flat_map}
-use Rattle.rdb_pages.specs.declared.cell.Cell.{Cell}
 use Rattle.rdb_pages.specs.declared.cell.CellRef.{CellRef}
 use Rattle.rdb_pages.specs.Pages.{zero_cell}
 use Rattle.rdb_cells.specs.Images.{Image}
 use Rattle.rdb_cells.specs.Links.{IsAmong, AreOnce, AreDisjoint}
 use Rattle.rdb_cells.specs.Words.{no_ref}
 use Rattle.rdb_cells.specs.Work.{Work, reading, IsLeft}
-use Rattle.rdb_cells.proofs.LinkLemmas.{among_either, among_front, among_back, once_parts}
-use Rattle.rdb_tree.specs.Changes.{cell_of, with_cell, IsNodeAt, Siblings, replaced_at, without, shared_left, shared_right, merged}
-use Rattle.rdb_tree.specs.Losses.{DropsCells, StaysOutside, IsPlain, IsMended, HasMended}
-use Rattle.rdb_tree.specs.Trees.{Node, BTree, Each, Rooted, woven, versions, cells, roots, Stands, HasKeys, IsShaped, least_keys}
+use Rattle.rdb_cells.proofs.LinkLemmas.{among_front, among_back, once_parts}
+use Rattle.rdb_tree.specs.Changes.{cell_of, IsNodeAt, Siblings, replaced_at, without, shared_left, shared_right, merged}
+use Rattle.rdb_tree.specs.Losses.{DropsCells, StaysOutside, IsMended, HasMended}
+use Rattle.rdb_tree.specs.Trees.{BTree, Each, Rooted, versions, cells, roots, Stands, IsShaped, least_keys}
 use Rattle.rdb_tree.proofs.ClimbLemmas.{node_spent}
 use Rattle.rdb_tree.proofs.MendLemmas.{three, three_p, three_q, three_r, three_other, three_plain, there_front, there_next, replaced_front, without_front, without_next, left_less_roots, right_more_roots, right_less_roots, left_more_roots, joined_roots, BelowStands, stands_of, below_stands, left_below, right_more_below, right_below, left_more_below, joined_below, left_drops, right_drops, joined_drops}
 use Rattle.rdb_tree.proofs.NodeLemmas.{few_keys, roots_fit, stands_held, own_cell}
 use Rattle.rdb_tree.proofs.PairLemmas.{behind_part, woven_first, cells_around, mended}
 use Rattle.rdb_tree.proofs.SiblingLemmas.{left_less, right_more, left_more, right_less, both_joined, left_list, right_list, joined_list, left_shapes, right_shapes, joined_shape}
-use Rattle.rdb_tree.proofs.WovenLemmas.{each_front, each_back, map_there, length_map}
+use Rattle.rdb_tree.proofs.WovenLemmas.{each_back, map_there, length_map}
 
 pub alike_of : (h : ℕ) (x y : BTree h) → IsShaped h 2 x → IsShaped h 2 y → ((roots h x.children ≡ []) × (roots h y.children ≡ [])) ⊎ ((length (roots h x.children) ≡ length x.keys + 1) × (length (roots h y.children) ≡ length y.keys + 1))
 alike_of zero x y left right = inl (refl, refl)

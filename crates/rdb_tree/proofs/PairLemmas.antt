@@ -1,6 +1,6 @@
 -- Two children side by side and the key between them, with others in their place: the node lists the same.
-use Rattle.std.proofs.Common.{◌≡◌, ◌≢◌, ◌≤◌, ◌<◌, ◌+◌, ◌⊎◌, zero, suc, ℕ, List, [], ◌∷◌, ◌++◌, length, length-append, map, slice_get, Option, Some, inl, inr, refl, sym, ap, ap₂, subst, ◌∙◌, arith}
-use Rattle.std.proofs.lemmas.List.{append_assoc, append-nil, map-append}
+use Rattle.std.proofs.Common.{◌≡◌, ◌≤◌, ◌+◌, suc, ℕ, List, [], ◌∷◌, ◌++◌, length, length-append, map, Some, inl, inr, refl, sym, ap, subst, ◌∙◌, arith}
+use Rattle.std.proofs.lemmas.List.{append_assoc, map-append}
 use Rattle.std.proofs.lemmas.List.Concat.{flat_map-append}
 use Rattle.std.specs.List.{flat_map}
 use Rattle.rdb_pages.specs.declared.cell.CellRef.{CellRef}
@@ -9,7 +9,7 @@ use Rattle.rdb_cells.specs.Links.{IsAmong, AreOnce}
 use Rattle.rdb_cells.proofs.LinkLemmas.{among_either, among_front, among_back, once_parts, once_together}
 use Rattle.rdb_tree.specs.Changes.{cell_of}
 use Rattle.rdb_tree.specs.Losses.{DropsCells, StaysOutside, IsMended}
-use Rattle.rdb_tree.specs.Trees.{Node, BTree, Each, woven, versions, cells, roots, Stands, HasKeys, IsShaped, least_keys}
+use Rattle.rdb_tree.specs.Trees.{BTree, Each, woven, versions, cells, roots, Stands, IsShaped, least_keys}
 use Rattle.rdb_tree.proofs.FamilyLemmas.{all_still}
 use Rattle.rdb_tree.proofs.PartLemmas.{woven_append}
 use Rattle.rdb_tree.proofs.WovenLemmas.{each_both, each_front, each_back, length_map}

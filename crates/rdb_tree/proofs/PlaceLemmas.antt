@@ -1,10 +1,10 @@
 -- Where a version stands that isn't listed: what is before the place goes before it, and what is behind doesn't.
-use Rattle.std.proofs.Common.{◌≡◌, ◌≤◌, ◌<◌, ◌+◌, zero, suc, ℕ, List, [], ◌∷◌, ◌++◌, length, take, drop, cond, slice_get, Option, Some, Bool, true, false, refl, sym, ap, subst, ◌∙◌, arith}
+use Rattle.std.proofs.Common.{◌≡◌, ◌+◌, zero, suc, ℕ, List, [], ◌∷◌, ◌++◌, length, cond, slice_get, Some, Bool, true, false, refl, sym, ap, subst, ◌∙◌, arith}
 use Rattle.std.proofs.lemmas.List.{append_assoc}
 use Rattle.std.specs.List.{prefix_len}
 use Rattle.rdb_pages.specs.declared.cell.CellRef.{CellRef}
 use Rattle.rdb_tree.specs.Trees.{Each, woven}
-use Rattle.rdb_tree.proofs.PartLemmas.{IsParted, parted}
+use Rattle.rdb_tree.proofs.PartLemmas.{IsParted}
 use Rattle.rdb_tree.proofs.SeekLemmas.{all_before, cut_back}
 use Rattle.rdb_tree.specs.Ways.{IsCut}
 use Rattle.rdb_tree.proofs.WovenLemmas.{each_both}

@@ -1,5 +1,5 @@
 -- A put into the tree of an index meets what an index owes.
-use Rattle.std.proofs.Common.{◌≡◌, ◌≤◌, ◌+◌, ◌*◌, zero, suc, ℕ, List, [], ◌∷◌, ◌++◌, length, true, false, refl, sym, ap, subst, ◌∙◌, arith}
+use Rattle.std.proofs.Common.{◌≡◌, ◌≤◌, ◌+◌, ℕ, List, ◌∷◌, ◌++◌, true, false, sym, subst, ◌∙◌, arith}
 use Rattle.std.proofs.lemmas.List.Elements.{Contains-append_left, Contains-append_right}
 use Rattle.std.proofs.lemmas.List.Sorted.{IsPermutation-sym, IsPermutation-middle}
 use Rattle.std.specs.List.{Contains}
@@ -10,10 +10,10 @@ use Rattle.rdb_cells.specs.Keys.{Meaning, Sayings, says, IsUnlisted, RestsOnVers
 use Rattle.rdb_cells.specs.Work.{Work, reading, TakesAtMost}
 use Rattle.rdb_cells.proofs.IndexLemmas.{fewer_than}
 use Rattle.rdb_cells.proofs.ListedLemmas.{lists_more, lists_in_order}
-use Rattle.rdb_tree.specs.Growth.{ComesTo, IsTreePut}
+use Rattle.rdb_tree.specs.Growth.{IsTreePut}
 use Rattle.rdb_tree.specs.Nature.{IsTree, tree_nature}
 use Rattle.rdb_tree.specs.Order.{IsBefore, AreAscending, is_before}
-use Rattle.rdb_tree.specs.Trees.{Tree, Each, versions_of, cells_of}
+use Rattle.rdb_tree.specs.Trees.{versions_of, cells_of}
 use Rattle.rdb_tree.proofs.ChangedLemmas.{lists_now, account}
 use Rattle.rdb_tree.proofs.VersionLemmas.{some_version, goes_before, goes_behind, ascending_with, each_listed}
 

@@ -1,5 +1,5 @@
 -- A put into the tree of an index: its way down, and what the climb and a new root come to.
-use Rattle.std.proofs.Common.{◌≡◌, ◌≢◌, ◌≤◌, ◌+◌, ◌*◌, zero, suc, ℕ, List, [], ◌∷◌, ◌++◌, length, Option, Some, None, IsSome, Bool, refl, sym, ap, subst, ◌∙◌, arith}
+use Rattle.std.proofs.Common.{◌≡◌, ◌≢◌, ◌≤◌, ◌+◌, ℕ, List, [], ◌∷◌, ◌++◌, length, Some, IsSome, Bool, refl, sym, ap, subst, ◌∙◌, arith}
 use Rattle.rdb_pages.specs.declared.cell.CellRef.{CellRef}
 use Rattle.rdb_cells.specs.HeadFormat.{index_head_cell, rooted_head}
 use Rattle.rdb_cells.specs.Keys.{Sayings}
@@ -12,7 +12,7 @@ use Rattle.rdb_tree.specs.Changes.{CanTake, HasPlaces, IsNewRoot}
 use Rattle.rdb_tree.specs.Growth.{IsWayDown, IsUnderway, IsSettled, IsTreePut}
 use Rattle.rdb_tree.specs.Nature.{IsTree, IsSound, IsRootedAt, most_levels}
 use Rattle.rdb_tree.specs.Order.{AreAscending, is_before}
-use Rattle.rdb_tree.specs.Trees.{Node, BTree, Tree, Empty, Rooted, root_of, levels_of, versions_of}
+use Rattle.rdb_tree.specs.Trees.{Tree, Empty, Rooted, root_of, levels_of, versions_of}
 use Rattle.rdb_tree.specs.Ways.{Leads, GoesOnTo}
 use Rattle.rdb_tree.specs.declared.insert.Raised.{Raised}
 use Rattle.rdb_tree.specs.declared.path.Step.{Step}

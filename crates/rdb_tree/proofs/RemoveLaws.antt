@@ -1,7 +1,6 @@
 -- A removal from the tree of an index meets what an index owes.
-use Rattle.std.proofs.Common.{◌≡◌, zero, suc, ℕ, List, [], ◌∷◌, ◌++◌, inl, inr, refl, sym, subst, ◌∙◌}
+use Rattle.std.proofs.Common.{◌≡◌, ℕ, List, [], ◌∷◌, ◌++◌, inl, inr, sym, subst, ◌∙◌}
 use Rattle.std.proofs.lemmas.List.Sorted.{IsPermutation-sym, IsPermutation-middle}
-use Rattle.std.specs.List.{Contains}
 use Rattle.std.specs.Prelude.{IsPermutation}
 use Rattle.rdb_pages.specs.declared.cell.CellRef.{CellRef}
 use Rattle.rdb_cells.specs.Index.{ListsAnew}
@@ -12,7 +11,7 @@ use Rattle.rdb_cells.proofs.ListedLemmas.{lists_less, lists_in_order}
 use Rattle.rdb_tree.specs.Losses.{IsTreeRemoved}
 use Rattle.rdb_tree.specs.Nature.{IsTree, tree_nature}
 use Rattle.rdb_tree.specs.Order.{IsBefore, AreAscending}
-use Rattle.rdb_tree.specs.Trees.{Tree, Each, versions_of, cells_of}
+use Rattle.rdb_tree.specs.Trees.{versions_of, cells_of}
 use Rattle.rdb_tree.proofs.ChangedLemmas.{lists_now, account}
 use Rattle.rdb_tree.proofs.WovenLemmas.{each_both, each_front, each_back}
 

@@ -1,5 +1,5 @@
 -- A removal ends: the root keeps a key, or goes, and the head leads to what is below it.
-use Rattle.std.proofs.Common.{◌≡◌, ◌≢◌, ◌≤◌, ◌<◌, ◌+◌, ◌*◌, ◌⊎◌, zero, suc, ℕ, List, [], ◌∷◌, ◌++◌, length, slice_get, Option, Some, Bool, true, inl, inr, refl, sym, ap, ap₂, subst, ◌∙◌, arith}
+use Rattle.std.proofs.Common.{◌≡◌, ◌≢◌, ◌≤◌, ◌<◌, ◌+◌, ◌*◌, ◌⊎◌, zero, suc, ℕ, List, [], ◌∷◌, length, slice_get, Some, true, inl, inr, refl, sym, ap, ap₂, subst, ◌∙◌, arith}
 use Rattle.std.proofs.lemmas.List.{append-nil}
 use Rattle.std.proofs.Permutation.{which}
 use Rattle.std.specs.List.{Contains, flat_map}
@@ -8,20 +8,18 @@ use Rattle.rdb_pages.specs.declared.cell.Cell.{Cell}
 use Rattle.rdb_pages.specs.declared.cell.CellRef.{CellRef}
 use Rattle.rdb_pages.specs.Pages.{zero_cell}
 use Rattle.rdb_cells.specs.HeadFormat.{index_head_cell, rooted_head}
-use Rattle.rdb_cells.specs.Images.{Image, IsCell}
+use Rattle.rdb_cells.specs.Images.{IsCell}
 use Rattle.rdb_cells.specs.Keys.{Sayings}
 use Rattle.rdb_cells.specs.Links.{IsAmong, AreOnce}
 use Rattle.rdb_cells.specs.Words.{no_ref}
-use Rattle.rdb_cells.specs.Work.{Work, reading, IsLeft}
-use Rattle.rdb_cells.proofs.LinkLemmas.{once_parts}
+use Rattle.rdb_cells.specs.Work.{Work, reading}
 use Rattle.rdb_cells.proofs.WorkLemmas.{put_reads, lowest_none}
 use Rattle.rdb_tree.specs.Changes.{cell_of, with_cell, IsNodeAt, HasPlaces}
-use Rattle.rdb_tree.specs.Growth.{StaysBeside, IsTreeChanged}
-use Rattle.rdb_tree.specs.Losses.{Leaves, DropsCells, IsLess, IsPlain, IsBranch, IsHome, HasLost, IsTreeRemoved, LowersRoot}
+use Rattle.rdb_tree.specs.Growth.{StaysBeside}
+use Rattle.rdb_tree.specs.Losses.{Leaves, DropsCells, IsPlain, IsHome, HasLost, IsTreeRemoved, LowersRoot}
 use Rattle.rdb_tree.specs.Nature.{IsTree, IsRootedAt, most_levels}
-use Rattle.rdb_tree.specs.Order.{AreKeyed}
 use Rattle.rdb_tree.specs.TreeLaws.{still_stands}
-use Rattle.rdb_tree.specs.Trees.{Node, BTree, Each, Tree, Empty, Rooted, root_of, levels_of, versions, versions_of, cells, cells_of, roots, Stands, TreeStands, HasKeys, IsShaped, IsBTree, least_keys}
+use Rattle.rdb_tree.specs.Trees.{BTree, Each, Tree, Empty, Rooted, root_of, versions, versions_of, cells, cells_of, roots, Stands, TreeStands, IsShaped, IsBTree, least_keys}
 use Rattle.rdb_tree.proofs.ClimbLemmas.{node_spent}
 use Rattle.rdb_tree.proofs.LevelLemmas.{tree_rooted}
 use Rattle.rdb_tree.proofs.MendLemmas.{plain_put, plain_within}

@@ -1,5 +1,5 @@
 -- A node with what was raised into it, which may be one key too many: written as it is, or split.
-use Rattle.std.proofs.Common.{◌≡◌, ◌≢◌, ◌≤◌, ◌<◌, ◌+◌, ◌⊎◌, zero, suc, ℕ, List, [], ◌∷◌, ◌++◌, length, take, drop, map, slice_get, Option, Some, Bool, inl, inr, refl, sym, ap, subst, ◌∙◌, arith}
+use Rattle.std.proofs.Common.{◌≡◌, ◌≢◌, ◌≤◌, ◌+◌, zero, suc, ℕ, List, [], ◌∷◌, ◌++◌, length, take, drop, map, slice_get, Some, Bool, inl, inr, refl, sym, ap, subst, ◌∙◌, arith}
 use Rattle.std.proofs.lemmas.List.Sums.{prefix_len-le-length}
 use Rattle.std.specs.List.{flat_map, prefix_len}
 use Rattle.rdb_pages.specs.declared.cell.CellRef.{CellRef}
@@ -8,8 +8,7 @@ use Rattle.rdb_cells.specs.Links.{IsAmong, AreOnce, AreDisjoint}
 use Rattle.rdb_cells.proofs.LinkLemmas.{among_either, among_front, among_back, among_past, among_but, once_parts, once_together}
 use Rattle.rdb_tree.specs.Changes.{cell_of, raised_keys, raised_children}
 use Rattle.rdb_tree.specs.Growth.{ComesTo, AddsCells, StaysBeside, IsGrown, IsHalved}
-use Rattle.rdb_tree.specs.Trees.{Node, BTree, Below, Each, woven, versions, cells, roots, Stands, HasKeys, IsShaped, least_keys}
-use Rattle.rdb_tree.specs.Ways.{IsCut}
+use Rattle.rdb_tree.specs.Trees.{BTree, Below, Each, versions, cells, roots, Stands, IsShaped, least_keys}
 use Rattle.rdb_tree.proofs.ChangeLemmas.{below_there, one_key_more}
 use Rattle.rdb_tree.proofs.ChildLemmas.{with_two, each_two, length_two, two_roots}
 use Rattle.rdb_tree.proofs.ComingLemmas.{comes_leaf, comes_two}
@@ -18,7 +17,7 @@ use Rattle.rdb_tree.proofs.GrownLemmas.{IsPart}
 use Rattle.rdb_tree.proofs.HalfLemmas.{left_half, right_half, overfull, leaf_halves, inner_halves, inner_half_versions, leaf_half_versions, inner_halves_stand, half_cells}
 use Rattle.rdb_tree.proofs.MiddleLemmas.{adds_two}
 use Rattle.rdb_tree.proofs.PlaceLemmas.{IsAtCut, at_cut}
-use Rattle.rdb_tree.proofs.WovenLemmas.{each_at, map_there, length_map, own_cells}
+use Rattle.rdb_tree.proofs.WovenLemmas.{map_there, length_map, own_cells}
 
 -- the children that a node is to have stand, and there is one more of them than keys
 abbrev pub IsBuilt : (h : ℕ) → Image → List CellRef → List (Below h) → Type 0

@@ -1,29 +1,26 @@
 -- A put ends: the tree has grown in its place, or a new root stands above it.
-use Rattle.std.proofs.Common.{◌≡◌, ◌≢◌, ◌≤◌, ◌<◌, ◌+◌, ◌*◌, ◌⊎◌, zero, suc, ℕ, List, [], ◌∷◌, ◌++◌, length, Option, Some, None, Bool, inl, inr, refl, sym, ap, subst, ◌∙◌, arith}
+use Rattle.std.proofs.Common.{◌≡◌, ◌≢◌, ◌≤◌, ◌+◌, ◌⊎◌, zero, suc, ℕ, List, [], ◌∷◌, ◌++◌, Some, Bool, inl, inr, refl, sym, ap, subst, ◌∙◌, arith}
 use Rattle.std.proofs.lemmas.List.{append-nil}
 use Rattle.rdb_pages.specs.declared.cell.Cell.{Cell}
 use Rattle.rdb_pages.specs.declared.cell.CellRef.{CellRef}
 use Rattle.rdb_pages.specs.Pages.{zero_cell}
-use Rattle.rdb_cells.specs.declared.kind.Kind.{Kind}
 use Rattle.rdb_cells.specs.declared.kind.Kind.TheVariants as kind
 use Rattle.rdb_cells.specs.HeadFormat.{index_head_cell, rooted_head}
-use Rattle.rdb_cells.specs.Images.{Image, Writes}
-use Rattle.rdb_cells.specs.Links.{IsAmong, AreOnce, AreDisjoint}
+use Rattle.rdb_cells.specs.Images.{Writes}
+use Rattle.rdb_cells.specs.Links.{IsAmong}
 use Rattle.rdb_cells.specs.Words.{HasKind}
 use Rattle.rdb_cells.specs.Work.{Work, reading, IsLeft}
 use Rattle.rdb_cells.proofs.LinkLemmas.{among_either, among_front, among_back}
 use Rattle.rdb_cells.proofs.PlainLemmas.{one_kind}
 use Rattle.rdb_cells.proofs.WorkLemmas.{put_reads, take_work, left_blank}
 use Rattle.rdb_tree.specs.Changes.{cell_of, with_cell, with_taken, IsLowest, IsNewRoot}
-use Rattle.rdb_tree.specs.Growth.{ComesTo, AddsCells, StaysBeside, IsGrown, IsHalved, IsUntouched, IsRaised, IsAccount, IsUnderway, IsSettled, IsTreeChanged, IsTreePut}
+use Rattle.rdb_tree.specs.Growth.{ComesTo, AddsCells, StaysBeside, IsRaised, IsAccount, IsUnderway, IsSettled, IsTreePut}
 use Rattle.rdb_tree.specs.Nature.{most_levels}
 use Rattle.rdb_tree.specs.TreeLaws.{still_stands, all_nodes}
-use Rattle.rdb_tree.specs.Trees.{Node, BTree, Tree, Empty, Rooted, root_of, levels_of, versions, versions_of, cells, cells_of, Stands, TreeStands, IsShaped, IsBTree, HasKeys, least_keys}
+use Rattle.rdb_tree.specs.Trees.{BTree, Tree, Empty, Rooted, root_of, levels_of, versions, versions_of, cells, cells_of, Stands, TreeStands, IsBTree}
 use Rattle.rdb_tree.specs.declared.insert.Raised.{Raised}
 use Rattle.rdb_tree.proofs.AccountLemmas.{account_within, account_split}
 use Rattle.rdb_tree.proofs.ClimbLemmas.{node_spent}
-use Rattle.rdb_tree.proofs.HalfLemmas.{overfull}
-use Rattle.rdb_tree.proofs.NodeLemmas.{own_cell}
 
 -- a list with one more in front, where what comes is last
 adds_top : (fresh was now : List ℕ) (top : ℕ) → AddsCells fresh was now → (¬ IsAmong was top) → (¬ IsAmong fresh top) → AddsCells (fresh ++ top ∷ []) was (top ∷ now)

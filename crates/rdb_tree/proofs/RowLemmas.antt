@@ -1,15 +1,13 @@
 -- Runs of references in an array, and the keys and children of a node's cell.
-use Rattle.std.proofs.Common.{◌≡◌, ◌≤◌, ◌+◌, ◌-◌, ◌<◌, zero, suc, ℕ, List, [], ◌∷◌, ◌++◌, length, length-append, take, drop, Bool, true, false, refl, sym, ap, ap₂, subst, ◌∙◌, arith}
+use Rattle.std.proofs.Common.{◌≡◌, ◌≤◌, ◌+◌, ◌-◌, suc, ℕ, List, [], ◌∷◌, ◌++◌, length, length-append, take, drop, refl, sym, ap, ◌∙◌, arith}
 use Rattle.std.proofs.lemmas.List.{take_at, append_assoc, drop-replicate, length-take}
 use Rattle.std.proofs.lemmas.Slice.{take-put_mid}
-use Rattle.std.specs.Prelude.{replicate, ◌==◌, nat_eq}
+use Rattle.std.specs.Prelude.{replicate, nat_eq}
 use borrow.Author.Tests.{ne_eqb}
 use borrow.Rule.Slice.PartMut.{put_mid, post_of}
 use Rattle.rdb_pages.specs.declared.cell.CellRef.{CellRef}
-use Rattle.rdb_cells.specs.declared.formats.tree.TreeNode.{TreeNode}
-use Rattle.rdb_cells.specs.TreeFormat.{most_keys, most_children}
 use Rattle.rdb_cells.specs.Words.{no_ref}
-use Rattle.rdb_tree.specs.Trees.{padded, is_empty, node_with}
+use Rattle.rdb_tree.specs.Trees.{is_empty}
 
 -- three runs that were copied to an array one after another
 module _ (front middle back blank : List CellRef) (first second count m n : ℕ) (f : first ≡ length front) (s : second ≡ first + length middle) (c : count ≡ second + length back) where

@@ -1,5 +1,5 @@
 -- The first version past a place, among keys that are woven with what stands between them.
-use Rattle.std.proofs.Common.{◌≡◌, ◌≤◌, ◌<◌, ◌+◌, ◌-◌, zero, suc, ℕ, List, [], ◌∷◌, ◌++◌, length, take, get_or, slice_get, cond, Option, Some, None, Bool, true, false, not, refl, sym, ap, ap₂, subst, ◌∙◌, arith}
+use Rattle.std.proofs.Common.{◌≡◌, ◌≤◌, ◌+◌, ◌-◌, zero, suc, ℕ, List, [], ◌∷◌, ◌++◌, length, take, get_or, slice_get, cond, Option, Some, None, Bool, true, false, not, refl, sym, ap, ap₂, subst, ◌∙◌, arith}
 use Rattle.std.proofs.lemmas.Bool.{false≢true}
 use Rattle.std.proofs.lemmas.List.{append-nil}
 use Rattle.std.proofs.lemmas.List.Elements.{filter-append}
@@ -8,7 +8,7 @@ use Rattle.rdb_pages.specs.declared.cell.CellRef.{CellRef}
 use Rattle.rdb_tree.specs.Lookups.{first_met, first_of, key_beyond}
 use Rattle.rdb_tree.specs.Trees.{Each, woven}
 use Rattle.rdb_tree.specs.Ways.{IsCut}
-use Rattle.rdb_tree.proofs.WovenLemmas.{each_both, each_front, each_back}
+use Rattle.rdb_tree.proofs.WovenLemmas.{each_front, each_back}
 
 abbrev pub sought : (CellRef → Bool) → Bool → CellRef → Bool
 sought near true r = not (near r)

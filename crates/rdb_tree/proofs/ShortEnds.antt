@@ -1,14 +1,13 @@
 -- The short child of a node, its sibling before it, and the one behind it.
-use Rattle.std.proofs.Common.{◌≡◌, ◌≢◌, ◌≤◌, ◌<◌, ◌+◌, ◌-◌, zero, suc, ℕ, List, [], ◌∷◌, ◌++◌, length, length-append, take, drop, map, get_or, slice_get, Option, Some, Bool, true, false, inl, inr, refl, sym, ap, subst, ◌∙◌, arith, nat_lt}
+use Rattle.std.proofs.Common.{◌≡◌, ◌≢◌, ◌≤◌, ◌<◌, ◌+◌, ◌-◌, suc, ℕ, List, [], ◌∷◌, ◌++◌, length, length-append, take, get_or, slice_get, Some, true, false, inl, inr, refl, sym, ap, subst, ◌∙◌, arith, nat_lt}
 use Rattle.std.proofs.lemmas.List.{append_assoc}
 use Rattle.std.specs.Prelude.{nat_le}
 use borrow.Author.Tests.{ltb-true, ltb-false, leb-true, leb-false}
 use Rattle.rdb_pages.specs.declared.cell.CellRef.{CellRef}
-use Rattle.rdb_cells.specs.Images.{Image, IsCell}
 use Rattle.rdb_cells.specs.Work.{Work, reading}
 use Rattle.rdb_tree.specs.Changes.{cell_of, IsNodeAt, Siblings, shared_left, shared_right, merged}
-use Rattle.rdb_tree.specs.Losses.{IsMended, HasMended, IsShort}
-use Rattle.rdb_tree.specs.Trees.{Node, BTree, Each, versions, cells, roots, Stands, HasKeys, IsShaped, least_keys}
+use Rattle.rdb_tree.specs.Losses.{HasMended, IsShort}
+use Rattle.rdb_tree.specs.Trees.{BTree, Each, cells, roots, Stands, IsShaped, least_keys}
 use Rattle.rdb_tree.proofs.MendLemmas.{plain_first, plain_more, there_front, there_next}
 use Rattle.rdb_tree.proofs.NodeLemmas.{few_keys, roots_fit, stands_held}
 use Rattle.rdb_tree.proofs.ShortLemmas.{fewer, full, IsPairOf, pair_of, the_siblings, left_ends, right_ends, merge_ends}

@@ -1,21 +1,12 @@
 -- A node one of whose children may be a key too few: the pair with the sibling before or behind it, and how it is mended.
-use Rattle.std.proofs.Common.{◌≡◌, ◌≢◌, ◌≤◌, ◌<◌, ◌+◌, ◌-◌, ◌⊎◌, zero, suc, ℕ, List, [], ◌∷◌, ◌++◌, length, length-append, take, drop, map, get_or, slice_get, Option, Some, Bool, true, false, inl, inr, refl, sym, ap, ap₂, subst, ◌∙◌, arith, nat_lt, nat_le}
-use Rattle.std.proofs.lemmas.List.{append_assoc}
-use Rattle.std.specs.Prelude.{nat_le}
-use borrow.Author.Tests.{ltb-true, ltb-false, leb-true, leb-false}
-use Rattle.std.specs.List.{flat_map}
+use Rattle.std.proofs.Common.{◌≡◌, ◌≤◌, ◌<◌, ◌+◌, zero, suc, ℕ, List, [], ◌∷◌, ◌++◌, length, length-append, refl, sym, ap, subst, ◌∙◌, arith}
 use Rattle.rdb_pages.specs.declared.cell.CellRef.{CellRef}
-use Rattle.rdb_cells.specs.Images.{Image, IsCell}
-use Rattle.rdb_cells.specs.Links.{IsAmong, AreOnce}
+use Rattle.rdb_cells.specs.Links.{AreOnce}
 use Rattle.rdb_cells.specs.Work.{Work, reading}
-use Rattle.rdb_tree.specs.Changes.{cell_of, FitsKeys, IsNodeAt, Siblings, shared_left, shared_right, merged}
-use Rattle.rdb_tree.specs.Losses.{DropsCells, IsMended, HasMended, IsShort}
-use Rattle.rdb_tree.specs.Trees.{Node, BTree, Each, versions, cells, roots, Stands, HasKeys, IsShaped, least_keys}
-use Rattle.rdb_tree.proofs.MendLemmas.{plain_first}
-use Rattle.rdb_tree.proofs.NodeLemmas.{few_keys, roots_fit, stands_held}
+use Rattle.rdb_tree.specs.Changes.{Siblings, shared_left, shared_right, merged}
+use Rattle.rdb_tree.specs.Losses.{HasMended}
+use Rattle.rdb_tree.specs.Trees.{BTree, Each, cells, roots, Stands, HasKeys, IsShaped, least_keys}
 use Rattle.rdb_tree.proofs.PairEnds.{sib, left_gives, right_gives, they_merge}
-use Rattle.rdb_tree.proofs.SiblingLemmas.{HasLast, has_last}
-use Rattle.rdb_tree.proofs.WovenLemmas.{each_front, each_back, each_both, length_map, map_there, get_there}
 
 -- a list at a place
 pub record IsCutAt (X : Type 0) (xs : List X) (n : ℕ) : Type 0 where

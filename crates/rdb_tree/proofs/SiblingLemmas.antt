@@ -1,18 +1,10 @@
 -- Two siblings that share a key or merge: their shape, their versions, their cells, and what stands of them.
-use Rattle.std.proofs.Common.{◌≡◌, ◌≢◌, ◌≤◌, ◌<◌, ◌+◌, ◌-◌, ◌⊎◌, zero, suc, ℕ, List, [], ◌∷◌, ◌++◌, length, length-append, take, drop, map, get_or, slice_get, Option, Some, inl, inr, refl, sym, ap, ap₂, subst, ◌∙◌, arith}
-use Rattle.std.proofs.lemmas.List.{append_assoc, append-nil, map-append, length-take-le, length-drop, take-append-drop}
-use Rattle.std.proofs.lemmas.List.Concat.{flat_map-append}
-use Rattle.std.specs.List.{flat_map}
+use Rattle.std.proofs.Common.{◌≡◌, ◌≤◌, ◌<◌, ◌+◌, ◌-◌, zero, suc, ℕ, List, [], ◌∷◌, ◌++◌, length, length-append, take, drop, map, get_or, refl, sym, ap, ap₂, ◌∙◌, arith}
+use Rattle.std.proofs.lemmas.List.{append_assoc, append-nil, map-append, length-take-le, length-drop}
 use Rattle.rdb_pages.specs.declared.cell.CellRef.{CellRef}
-use Rattle.rdb_pages.specs.Pages.{zero_cell}
-use Rattle.rdb_cells.specs.Images.{Image}
-use Rattle.rdb_cells.specs.Links.{IsAmong, AreOnce, AreDisjoint}
 use Rattle.rdb_cells.specs.Words.{no_ref}
-use Rattle.rdb_cells.proofs.LinkLemmas.{among_either, among_front, among_back, once_parts, once_together}
-use Rattle.rdb_tree.specs.Changes.{cell_of}
-use Rattle.rdb_tree.specs.Losses.{DropsCells}
-use Rattle.rdb_tree.specs.Trees.{Node, BTree, Below, Each, woven, versions, cells, roots, Stands, HasKeys, IsShaped, least_keys}
-use Rattle.rdb_tree.proofs.ChildLemmas.{each_take, each_drop, map_take, map_drop}
+use Rattle.rdb_tree.specs.Trees.{BTree, woven, versions, IsShaped, least_keys}
+use Rattle.rdb_tree.proofs.ChildLemmas.{each_take, each_drop}
 use Rattle.rdb_tree.proofs.PartLemmas.{woven_between}
 use Rattle.rdb_tree.proofs.WovenLemmas.{each_both, length_map}
 

@@ -1,21 +1,19 @@
 -- A search down a tree for the first version past a place.
-use Rattle.std.proofs.Common.{◌≡◌, ◌≢◌, ◌≤◌, ◌<◌, ◌+◌, ◌*◌, ◌⊎◌, zero, suc, ℕ, List, [], ◌∷◌, ◌++◌, length, take, map, get_or, slice_get, Option, Some, None, IsSome, Bool, true, false, inl, inr, refl, sym, ap, ap₂, subst, ◌∙◌, arith}
+use Rattle.std.proofs.Common.{◌≡◌, ◌≢◌, ◌≤◌, ◌+◌, zero, suc, ℕ, List, [], ◌++◌, length, map, slice_get, Option, Some, None, IsSome, Bool, true, false, inl, inr, refl, sym, ap, ap₂, subst, ◌∙◌, arith}
 use Rattle.std.proofs.lemmas.List.Sums.{prefix_len-le-length}
-use Rattle.std.specs.List.{prefix_len, Contains, flat_map}
+use Rattle.std.specs.List.{prefix_len, Contains}
 use Rattle.std.specs.Option.{unwrap_or}
 use Rattle.rdb_base.specs.declared.operation.Place.{Place}
 use Rattle.rdb_pages.specs.declared.cell.CellRef.{CellRef}
 use Rattle.rdb_cells.specs.declared.formats.tree.TreeNode.{TreeNode}
 use Rattle.rdb_cells.specs.Images.{Image, IsCell}
 use Rattle.rdb_cells.specs.Keys.{Sayings}
-use Rattle.rdb_cells.specs.Links.{IsAmong}
-use Rattle.rdb_cells.specs.References.{IsPageCell}
 use Rattle.rdb_cells.specs.TreeFormat.{IsTreeNode, tree_node_cell, most_keys}
 use Rattle.rdb_cells.specs.Words.{no_ref}
 use Rattle.rdb_tree.specs.Lookups.{is_near, first_past, first_of, key_beyond}
-use Rattle.rdb_tree.specs.Nature.{IsSound, IsRootedAt}
+use Rattle.rdb_tree.specs.Nature.{IsSound}
 use Rattle.rdb_tree.specs.Order.{AreKeyed}
-use Rattle.rdb_tree.specs.Trees.{Node, BTree, Below, Each, Tree, Empty, Rooted, woven, versions, versions_of, cells, cells_of, roots, root_of, levels_of, node_with, padded, keys_in, children_in, is_empty, Holds, Stands, TreeStands, HasKeys, IsShaped, IsBTree, least_keys}
+use Rattle.rdb_tree.specs.Trees.{BTree, Tree, Empty, Rooted, woven, versions, versions_of, roots, root_of, levels_of, node_with, keys_in, children_in, Stands, IsShaped, least_keys}
 use Rattle.rdb_tree.proofs.NodeLemmas.{few_keys, keys_back, children_back, roots_fit, looser, own_cell, proper, stands_held, cell_there}
 use Rattle.rdb_tree.proofs.OrderLemmas.{place_cuts, first_beyond}
 use Rattle.rdb_tree.proofs.SeekLemmas.{beyond, step, first_assoc, first_none}

@@ -1,5 +1,5 @@
 -- A version is taken out of a tree: out of a leaf, out of a node by the last version before it, or out of a child.
-use Rattle.std.proofs.Common.{◌≡◌, ◌≢◌, ◌≤◌, ◌<◌, ◌+◌, ◌-◌, ◌*◌, ◌⊎◌, zero, suc, ℕ, List, [], ◌∷◌, ◌++◌, length, take, drop, map, slice_get, Option, Some, IsSome, Bool, true, false, inl, inr, refl, sym, ap, ap₂, subst, ◌∙◌, arith}
+use Rattle.std.proofs.Common.{◌≡◌, ◌≢◌, ◌<◌, ◌+◌, ◌-◌, ◌*◌, zero, suc, ℕ, List, [], ◌∷◌, ◌++◌, length, take, drop, map, slice_get, Option, Some, IsSome, Bool, true, false, inl, inr, refl, sym, ap, ap₂, subst, ◌∙◌, arith}
 use Rattle.std.proofs.lemmas.Bool.{false≢true}
 use Rattle.std.proofs.lemmas.List.{append_assoc}
 use Rattle.std.proofs.Permutation.{which}
@@ -7,23 +7,21 @@ use Rattle.std.proofs.lemmas.List.Sums.{prefix_len-le-length}
 use Rattle.std.specs.List.{Contains, prefix_len, flat_map}
 use Rattle.std.specs.Option.{unwrap_or}
 use Rattle.rdb_pages.specs.declared.cell.CellRef.{CellRef}
-use Rattle.rdb_pages.specs.Pages.{zero_cell}
-use Rattle.rdb_cells.specs.Images.{Image, IsCell}
+use Rattle.rdb_cells.specs.Images.{IsCell}
 use Rattle.rdb_cells.specs.Keys.{Sayings}
-use Rattle.rdb_cells.specs.Links.{IsAmong}
 use Rattle.rdb_cells.specs.Words.{no_ref}
 use Rattle.rdb_cells.specs.Work.{Work, reading}
 use Rattle.rdb_cells.proofs.WorkLemmas.{put_reads}
 use Rattle.rdb_tree.specs.Changes.{cell_of, with_cell, HasPlaces, without, replaced_at}
-use Rattle.rdb_tree.specs.Losses.{Leaves, DropsCells, IsShort, HasMended, IsBranch, IsHome, HasLost, HasLostLast, IsPlain}
+use Rattle.rdb_tree.specs.Losses.{Leaves, DropsCells, IsShort, HasMended, IsBranch, IsHome, HasLost, HasLostLast}
 use Rattle.rdb_tree.specs.Order.{AreKeyed, is_before}
-use Rattle.rdb_tree.specs.Trees.{Node, BTree, Each, Rooted, woven, versions, cells, roots, is_empty, IsShaped, least_keys}
+use Rattle.rdb_tree.specs.Trees.{BTree, Rooted, woven, versions, cells, roots, is_empty, least_keys}
 use Rattle.rdb_tree.proofs.ChangeLemmas.{length_replaced, below_there}
 use Rattle.rdb_tree.proofs.ChildLemmas.{with_another, map_another, same_another}
 use Rattle.rdb_tree.proofs.ClimbLemmas.{node_spent}
 use Rattle.rdb_tree.proofs.LastLemmas.{inner_full}
 use Rattle.rdb_tree.proofs.LocatedLemmas.{IsBelow, located, located_leaf}
-use Rattle.rdb_tree.proofs.LossLemmas.{IsReduced, leaf_lost, branch_child, child_reduced, reduced_mended, with_less, less_drops, less_short, less_plain, less_elsewhere}
+use Rattle.rdb_tree.proofs.LossLemmas.{IsReduced, leaf_lost, branch_child, child_reduced, reduced_mended, less_drops, less_short, less_plain, less_elsewhere}
 use Rattle.rdb_tree.proofs.MendLemmas.{plain_put, plain_within}
 use Rattle.rdb_tree.proofs.NodeLemmas.{looser, cell_there}
 use Rattle.rdb_tree.proofs.WovenLemmas.{there, map_there, length_map, part_of, keyed_part, key_within, own_cells}

@@ -1,5 +1,5 @@
 -- A way from the root down to the place of a version.
-use Rattle.std.proofs.Common.{◌≡◌, ◌≢◌, ◌≤◌, ◌<◌, ◌+◌, zero, suc, ℕ, List, [], ◌∷◌, ◌++◌, length, length-append, map, slice_get, Option, Some, Bool, inl, inr, refl, sym, ap, ap₂, subst, ◌∙◌, arith}
+use Rattle.std.proofs.Common.{◌≡◌, ◌≢◌, ◌+◌, zero, suc, ℕ, List, [], ◌∷◌, ◌++◌, map, slice_get, Option, Some, Bool, inl, inr, refl, sym, ap, subst, ◌∙◌, arith}
 use Rattle.std.proofs.lemmas.List.{append_assoc, append-nil}
 use Rattle.std.proofs.lemmas.List.Sums.{prefix_len-le-length}
 use Rattle.std.specs.List.{prefix_len}
@@ -10,12 +10,12 @@ use Rattle.rdb_cells.specs.Images.{Image}
 use Rattle.rdb_cells.specs.Keys.{Sayings}
 use Rattle.rdb_cells.specs.TreeFormat.{IsTreeNode, tree_node_cell}
 use Rattle.rdb_cells.specs.Words.{no_ref}
-use Rattle.rdb_tree.specs.Nature.{IsSound, IsRootedAt}
+use Rattle.rdb_tree.specs.Nature.{IsSound}
 use Rattle.rdb_tree.specs.Order.{AreKeyed}
-use Rattle.rdb_tree.specs.Trees.{Node, BTree, Each, Tree, Empty, Rooted, versions, roots, root_of, levels_of, node_with, keys_in, children_in, Stands, IsShaped, least_keys}
+use Rattle.rdb_tree.specs.Trees.{BTree, Tree, Empty, Rooted, versions, roots, root_of, levels_of, keys_in, children_in, Stands, IsShaped, least_keys}
 use Rattle.rdb_tree.specs.Ways.{Leads, GoesOnTo}
 use Rattle.rdb_tree.specs.declared.path.Step.{Step}
-use Rattle.rdb_tree.proofs.NodeLemmas.{few_keys, keys_back, children_back, roots_fit, looser}
+use Rattle.rdb_tree.proofs.NodeLemmas.{keys_back, children_back, roots_fit, looser}
 use Rattle.rdb_tree.proofs.SoughtLemmas.{IsHere, here_read, empty_root}
 use Rattle.rdb_tree.proofs.WovenLemmas.{each_at, there, map_there, part_of, keyed_part, own_cells, length_map}
 

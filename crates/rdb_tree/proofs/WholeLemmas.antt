@@ -1,13 +1,13 @@
 -- The tree that a head leads to, or none.
-use Rattle.std.proofs.Common.{◌≡◌, ◌≢◌, ◌≤◌, ◌<◌, ◌⊎◌, zero, suc, ℕ, List, [], length, inl, inr, refl, sym, ap, subst, ◌∙◌, arith}
+use Rattle.std.proofs.Common.{◌≡◌, ◌≢◌, ℕ, List, [], sym, ap, ◌∙◌, arith}
 use Rattle.rdb_pages.specs.declared.cell.CellRef.{CellRef}
 use Rattle.rdb_cells.specs.Images.{Image}
 use Rattle.rdb_cells.specs.Keys.{Sayings}
-use Rattle.rdb_tree.specs.Nature.{IsTree, IsSound, IsRootedAt}
+use Rattle.rdb_tree.specs.Nature.{IsTree, IsRootedAt}
 use Rattle.rdb_tree.specs.Order.{AreKeyed}
-use Rattle.rdb_tree.specs.Trees.{Node, BTree, Tree, Empty, Rooted, IsTreeAt, versions, versions_of, root_of}
+use Rattle.rdb_tree.specs.Trees.{BTree, Tree, Empty, Rooted, IsTreeAt, versions, versions_of, root_of}
 use Rattle.rdb_tree.proofs.LevelLemmas.{tree_sound, tree_rooted}
-use Rattle.rdb_tree.proofs.SoughtLemmas.{empty_root, some_root}
+use Rattle.rdb_tree.proofs.SoughtLemmas.{empty_root}
 
 -- the tree of a head, with its height and its versions
 pub record IsWhole (said : Sayings) (image : Image) (listed : List CellRef) (at : CellRef) : Type 0 where

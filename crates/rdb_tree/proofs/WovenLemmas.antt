@@ -1,6 +1,6 @@
 -- Keys woven with what stands between them, and parts of lists that ascend.
-use Rattle.std.proofs.Common.{◌≡◌, ◌≤◌, ◌<◌, ◌+◌, ◌⊎◌, zero, suc, ℕ, List, [], ◌∷◌, ◌++◌, length, length-append, take, drop, map, get_or, slice_get, Option, Some, None, IsSome, Bool, true, false, inl, inr, refl, sym, ap, ap₂, subst, ◌∙◌, arith}
-use Rattle.std.proofs.lemmas.List.{append_assoc, append-nil}
+use Rattle.std.proofs.Common.{◌≡◌, ◌≤◌, ◌<◌, ◌+◌, zero, suc, ℕ, List, [], ◌∷◌, ◌++◌, length, map, get_or, slice_get, Some, inl, inr, refl, sym, ap, subst, ◌∙◌, arith}
+use Rattle.std.proofs.lemmas.List.{append_assoc}
 use Rattle.std.proofs.lemmas.List.Elements.{Contains-append_left, Contains-append_right}
 use Rattle.std.specs.List.{Contains, flat_map}
 use Rattle.rdb_pages.specs.declared.cell.CellRef.{CellRef}
@@ -9,7 +9,7 @@ use Rattle.rdb_cells.specs.Links.{IsAmong}
 use Rattle.rdb_cells.proofs.LinkLemmas.{among_front, among_back}
 use Rattle.rdb_cells.proofs.ListedLemmas.{contains_first, contains_later, contains_either}
 use Rattle.rdb_tree.specs.Order.{IsBefore, AreAscending, AreKeyed}
-use Rattle.rdb_tree.specs.Trees.{Node, BTree, Below, Each, woven, versions, cells, roots}
+use Rattle.rdb_tree.specs.Trees.{BTree, Each, woven, cells}
 
 -- what holds of each holds of parts, and of the one at a place
 module _ {X : Type 0} (Holds : X → Type 0) where

@@ -3,16 +3,15 @@ use Rattle.std.specs.Prelude.{◌≡◌, ◌≤◌, ◌<◌, ◌+◌, ◌-◌, �
 use Rattle.rdb_pages.specs.declared.cell.Cell.{Cell}
 use Rattle.rdb_pages.specs.declared.cell.CellRef.{CellRef}
 use Rattle.rdb_pages.specs.Pages.{zero_cell}
-use Rattle.rdb_cells.specs.HeadFormat.{index_head_cell, rooted_head, empty_index_head}
-use Rattle.rdb_cells.specs.Images.{Image, IsCell}
+use Rattle.rdb_cells.specs.HeadFormat.{index_head_cell, rooted_head}
+use Rattle.rdb_cells.specs.Images.{Image}
 use Rattle.rdb_cells.specs.Records.{with_put}
 use Rattle.rdb_cells.specs.TreeFormat.{most_keys, tree_node_cell}
 use Rattle.rdb_cells.specs.Untaken.{IsNextUntaken}
-use Rattle.rdb_cells.specs.Work.{Work, reading, IsLeft}
+use Rattle.rdb_cells.specs.Work.{Work, IsLeft}
 use Rattle.rdb_cells.specs.Words.{no_ref}
 use Rattle.rdb_tree.specs.Trees.{node_with}
 use Rattle.rdb_tree.specs.declared.insert.Raised.{Raised}
-use Rattle.rdb_tree.specs.declared.path.Step.{Step}
 
 -- the cell of a node with these keys and children
 abbrev pub cell_of : List CellRef → List CellRef → Cell

@@ -4,12 +4,11 @@ use Rattle.rdb_pages.specs.declared.cell.CellRef.{CellRef}
 use Rattle.rdb_pages.specs.Pages.{zero_cell}
 use Rattle.rdb_cells.specs.HeadFormat.{index_head_cell, rooted_head}
 use Rattle.rdb_cells.specs.Images.{Image}
-use Rattle.rdb_cells.specs.Links.{IsAmong, AreOnce, AreDisjoint}
+use Rattle.rdb_cells.specs.Links.{IsAmong, AreOnce}
 use Rattle.rdb_cells.specs.Records.{content}
-use Rattle.rdb_cells.specs.References.{IsPageCell}
 use Rattle.rdb_cells.specs.Work.{Work, reading, IsLeft, GoesOn, TakesAtMost, TakesLowest}
 use Rattle.rdb_tree.specs.Nature.{most_levels}
-use Rattle.rdb_tree.specs.Trees.{Node, BTree, Each, Tree, Empty, Rooted, root_of, levels_of, versions, versions_of, cells, cells_of, Stands, TreeStands, IsShaped, IsBTree, least_keys}
+use Rattle.rdb_tree.specs.Trees.{BTree, Each, Tree, Empty, Rooted, root_of, levels_of, versions, versions_of, cells, cells_of, Stands, TreeStands, IsShaped, IsBTree, least_keys}
 use Rattle.rdb_tree.specs.Ways.{IsCut, Leads}
 use Rattle.rdb_tree.specs.declared.insert.Raised.{Raised}
 use Rattle.rdb_tree.specs.declared.path.Step.{Step}

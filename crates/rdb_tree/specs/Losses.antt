@@ -1,5 +1,5 @@
 -- A version leaves a tree, and nodes that are left with a key too few are mended.
-use Rattle.std.specs.Prelude.{◌≡◌, ◌≤◌, ◌<◌, ◌+◌, ◌*◌, ◌⊎◌, ℕ, suc, List, [], ◌∷◌, ◌++◌, length, slice_get, Some, Contains}
+use Rattle.std.specs.Prelude.{◌≡◌, ◌≤◌, ◌+◌, ◌*◌, ◌⊎◌, ℕ, suc, List, [], ◌∷◌, ◌++◌, length, slice_get, Some, Contains}
 use Rattle.std.specs.Option.{unwrap_or}
 use Rattle.rdb_pages.specs.declared.cell.CellRef.{CellRef}
 use Rattle.rdb_pages.specs.Pages.{zero_cell}
@@ -9,11 +9,11 @@ use Rattle.rdb_cells.specs.Keys.{Sayings}
 use Rattle.rdb_cells.specs.Links.{IsAmong, AreOnce}
 use Rattle.rdb_cells.specs.Records.{content}
 use Rattle.rdb_cells.specs.Words.{no_ref}
-use Rattle.rdb_cells.specs.Work.{Work, reading, IsLeft, GoesOn, TakesNone}
+use Rattle.rdb_cells.specs.Work.{Work, reading, GoesOn, TakesNone}
 use Rattle.rdb_tree.specs.Changes.{with_cell}
 use Rattle.rdb_tree.specs.Growth.{IsTreeChanged}
 use Rattle.rdb_tree.specs.Order.{AreKeyed}
-use Rattle.rdb_tree.specs.Trees.{Node, BTree, Each, Tree, versions, versions_of, cells, Stands, IsShaped, HasKeys, least_keys}
+use Rattle.rdb_tree.specs.Trees.{BTree, Each, Tree, versions, versions_of, cells, Stands, IsShaped, HasKeys, least_keys}
 
 -- a version left its place among others
 pub record Leaves (lost : CellRef) (was now : List CellRef) : Type 0 where

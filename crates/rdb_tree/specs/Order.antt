@@ -1,5 +1,5 @@
 -- The order of listed versions, by what the keys of their index say.
-use Rattle.std.specs.Prelude.{◌≡◌, ℕ, List, [], ◌∷◌, Contains, Option, Some, None, IsSome, Bool, true, false}
+use Rattle.std.specs.Prelude.{◌≡◌, ℕ, List, [], ◌∷◌, Contains, Option, Some, None, IsSome, Bool}
 use Rattle.std.specs.Option.{option_map}
 use Rattle.std.specs.Ordering.{is_some_and, is_lt}
 use Rattle.std.specs.declared.cmp.Ordering.{Ordering}

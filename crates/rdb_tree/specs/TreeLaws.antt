@@ -1,5 +1,5 @@
 -- A tree index meets the laws of an index. The laws cite this, so no tactic stands here.
-use Rattle.std.specs.Prelude.{◌≡◌, ◌+◌, ◌*◌, ◌%◌, ◌≤◌, map, ℕ, zero, suc, List, [], ◌∷◌, ◌++◌, ◌⊎◌, length, Option, Some, Contains, if◌then◌else◌, refl}
+use Rattle.std.specs.Prelude.{◌≡◌, ◌+◌, ◌*◌, ◌≤◌, map, ℕ, zero, suc, List, [], ◌∷◌, ◌++◌, ◌⊎◌, length, Contains, if◌then◌else◌, refl}
 use Rattle.std.specs.List.{flat_map}
 use mathlib.Core.Logic.{inl, inr}
 use mathlib.Core.Path.{sym, ap, subst, ◌∙◌}
@@ -11,13 +11,13 @@ use Rattle.rdb_cells.specs.HeadFormat.{index_head_cell, rooted_head}
 use Rattle.rdb_cells.specs.Images.{Image}
 use Rattle.rdb_cells.specs.Index.{StartsEmpty, ListsOnce, HasIndexCells, HasFewNodes, RestsOnNodes}
 use Rattle.rdb_cells.specs.Keys.{Sayings}
-use Rattle.rdb_cells.specs.Links.{IsAmong, AreOnce, SameOn}
+use Rattle.rdb_cells.specs.Links.{IsAmong, SameOn}
 use Rattle.rdb_cells.specs.PlainLaws.{lists_again}
 use Rattle.rdb_cells.specs.TreeFormat.{tree_node_cell}
 use Rattle.rdb_cells.specs.Words.{IsOfKind, HasKind}
-use Rattle.rdb_tree.specs.Nature.{IsTree, tree_nature}
+use Rattle.rdb_tree.specs.Nature.{tree_nature}
 use Rattle.rdb_tree.specs.Order.{IsBefore, AreAscending}
-use Rattle.rdb_tree.specs.Trees.{Node, BTree, Each, Tree, Empty, Rooted, Stands, Holds, cells, cells_of, TreeStands, IsBTree, IsShaped, least_keys, root_of, versions, versions_of, woven, node_with, roots}
+use Rattle.rdb_tree.specs.Trees.{BTree, Each, Tree, Empty, Rooted, Stands, Holds, cells, cells_of, TreeStands, IsBTree, IsShaped, least_keys, root_of, versions, versions_of, woven, node_with, roots}
 
 -- the cell of a node is one of a tree
 pub node_kind : (node : TreeNode) → IsOfKind (tree_node_cell node) kind.TreeNode

@@ -1,8 +1,8 @@
 -- Ways from the root of a tree down.
-use Rattle.std.specs.Prelude.{◌≡◌, ℕ, zero, suc, List, [], ◌∷◌, ◌++◌, slice_get, Some, Bool, false}
+use Rattle.std.specs.Prelude.{◌≡◌, zero, suc, List, [], ◌∷◌, ◌++◌, slice_get, Some, Bool, false}
 use Rattle.std.specs.List.{prefix_len}
 use Rattle.rdb_pages.specs.declared.cell.CellRef.{CellRef}
-use Rattle.rdb_tree.specs.Trees.{Node, BTree, Each, Tree, Empty, Rooted}
+use Rattle.rdb_tree.specs.Trees.{BTree, Each, Tree, Empty, Rooted}
 use Rattle.rdb_tree.specs.declared.path.Step.{Step}
 
 -- once one isn't on the near side, none behind it is

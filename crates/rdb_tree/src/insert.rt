@@ -41,12 +41,14 @@ pub(crate) fn put<C: Cells, K: Keys>(
     version: CellRef,
 )
     requires standing { (listed : _) × (nodes : _)
-        × IsTree tree.now.head.number (says (K.meaning keys.now) (reading (work C.Cells cells.old))) (reading (work C.Cells cells.old)) listed nodes }
+        × IsTree tree.now.head.number (says (K.meaning keys.now) (reading (work C.Cells cells.old)))
+        (reading (work C.Cells cells.old)) listed nodes }
     requires version { HasKey (K.meaning keys.now) (reading (work C.Cells cells.old)) version }
     requires free { HasLeft (work C.Cells cells.old) tree_part }
     requires places { HasPlaces (work C.Cells cells.old) 24 }
     ensures put { (listed : _) (nodes : _) →
-        (is : IsTree tree.now.head.number (says (K.meaning keys.now) (reading (work C.Cells cells.old))) (reading (work C.Cells cells.old)) listed nodes) →
+        (is : IsTree tree.now.head.number (says (K.meaning keys.now) (reading (work C.Cells cells.old)))
+        (reading (work C.Cells cells.old)) listed nodes) →
         IsTreePut (work C.Cells cells.old) (work C.Cells cells.new)
         (is_before (says (K.meaning keys.now) (reading (work C.Cells cells.old))) version) version tree.now.head.number is.tree }
     ensures below { (cells.new.cells ≡ cells.old.cells) × (cells.new.class ≡ cells.old.class) }
@@ -102,7 +104,8 @@ fn descend<C: Cells, K: Keys>(
     requires room { path.old.capacity ≡ path_places }
     ensures way { (tree : TreeValue) → IsRootedAt (says (K.meaning keys.now) (reading (work C.Cells cells.now)))
         (reading (work C.Cells cells.now)) root tree →
-        GoesOnTo (is_before (says (K.meaning keys.now) (reading (work C.Cells cells.now))) version) path.old.items path.new.items tree Empty }
+        GoesOnTo (is_before (says (K.meaning keys.now) (reading (work C.Cells cells.now))) version)
+        path.old.items path.new.items tree Empty }
     ensures room { path.new.capacity ≡ path_places }
 {
     let mut at = root;

@@ -8,6 +8,8 @@ mod node;
 mod path;
 mod remove;
 mod search;
+#[cfg(test)]
+mod tests;
 mod tree;
 
 pub use tree::Tree;

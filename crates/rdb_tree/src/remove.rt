@@ -34,11 +34,13 @@ pub(crate) fn remove<C: Cells, K: Keys>(
     version: CellRef,
 )
     requires standing { (listed : _) × (nodes : _)
-        × IsTree tree.now.head.number (says (K.meaning keys.now) (reading (work C.Cells cells.old))) (reading (work C.Cells cells.old)) listed nodes
+        × IsTree tree.now.head.number (says (K.meaning keys.now) (reading (work C.Cells cells.old)))
+        (reading (work C.Cells cells.old)) listed nodes
         × Contains listed version }
     requires places { HasPlaces (work C.Cells cells.old) 36 }
     ensures removed { (listed : _) (nodes : _) →
-        (is : IsTree tree.now.head.number (says (K.meaning keys.now) (reading (work C.Cells cells.old))) (reading (work C.Cells cells.old)) listed nodes) →
+        (is : IsTree tree.now.head.number (says (K.meaning keys.now) (reading (work C.Cells cells.old)))
+        (reading (work C.Cells cells.old)) listed nodes) →
         Contains listed version → IsTreeRemoved (work C.Cells cells.old) (work C.Cells cells.new) version tree.now.head.number is.tree }
     ensures below { (cells.new.cells ≡ cells.old.cells) × (cells.new.class ≡ cells.old.class) }
 {
@@ -57,7 +59,8 @@ fn take_out<C: Cells, K: Keys>(
     levels: u32,
 )
     requires tree { (h : ℕ) × (t : TreeOf h)
-        × IsHome (says (K.meaning keys.now) (reading (work C.Cells cells.old))) (reading (work C.Cells cells.old)) version at h t × (h < levels) }
+        × IsHome (says (K.meaning keys.now) (reading (work C.Cells cells.old))) (reading (work C.Cells cells.old))
+        version at h t × (h < levels) }
     requires places { HasPlaces (work C.Cells cells.old) (3 * levels) }
     ensures lost { (h : ℕ) (t : TreeOf h) →
         IsHome (says (K.meaning keys.now) (reading (work C.Cells cells.old))) (reading (work C.Cells cells.old)) version at h t →

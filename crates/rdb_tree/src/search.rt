@@ -57,7 +57,8 @@ fn count_near_key<C: Cells, K: Keys, L: Ledger>(
 ) -> usize
     requires keyed { (r : CellRef) → Contains versions.now r → HasKey (K.meaning keys.now) (C.image cells.now) r }
     requires key { (K.meaning keys.now).fits key.now ≡ true }
-    ensures count { result ≡ prefix_len (goes (goes_near up) (says (K.meaning keys.now) (C.image cells.now)) key.now (Some id)) versions.now }
+    ensures count { result ≡ prefix_len (goes (goes_near up) (says (K.meaning keys.now) (C.image cells.now)) key.now (Some id))
+        versions.now }
     ensures steps { steps.new ≤ steps.old + length versions.now }
 {
     for (place, own) in versions.iter().enumerate() {

@@ -1,8 +1,6 @@
-use Rattle.std.proofs.Common.{◌≡◌, ◌++◌, ◌∷◌, [], List, Bool, Some, None, refl, sym, ap, subst, ◌∙◌, arith}
-use Rattle.rdb_pages.specs.declared.cell.CellRef.{CellRef}
-use Rattle.rdb_cells.specs.Work.{Work, work, reading}
-use Rattle.rdb_tree.specs.Growth.{IsUnderway, IsWayDown}
-use Rattle.rdb_tree.specs.Trees.{Tree}
+use Rattle.std.proofs.Common.{List, Some, None, refl, subst, ◌∙◌}
+use Rattle.rdb_cells.specs.Work.{work}
+use Rattle.rdb_tree.specs.Growth.{IsUnderway}
 use Rattle.rdb_tree.specs.declared.path.Step.{Step}
 use Rattle.rdb_tree.proofs.ClimbLemmas.{underway_first, climb_node, climb_free, climb_places, climb_step}
 use Rattle.rdb_tree.proofs.insert.climb.Goals as goal

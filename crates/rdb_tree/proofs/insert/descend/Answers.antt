@@ -1,14 +1,13 @@
-use Rattle.std.proofs.Common.{◌≡◌, ◌≢◌, ◌+◌, ◌≤◌, ◌<◌, ◌++◌, ◌∷◌, [], List, length, length-append, ap, arith, refl, sym, ◌∙◌, subst}
+use Rattle.std.proofs.Common.{◌∷◌, [], List, length, length-append, ap, arith, sym, ◌∙◌, subst}
 use Rattle.std.specs.List.{Contains, prefix_len}
 use borrow.Author.Tests.{eqb-true, eqb-false}
 use Rattle.rdb_pages.specs.declared.cell.CellRef.{CellRef}
 use Rattle.rdb_cells.specs.Keys.{says}
 use Rattle.rdb_cells.specs.Work.{work, reading}
 use Rattle.rdb_tree.specs.Order.{is_before}
-use Rattle.rdb_tree.specs.Trees.{keys_in}
 use Rattle.rdb_tree.specs.declared.path.Step.{Step}
 use Rattle.rdb_tree.proofs.SoughtLemmas.{here_cell, here_few, here_keyed}
-use Rattle.rdb_tree.proofs.WayLemmas.{way_first, way_end, way_here, way_more}
+use Rattle.rdb_tree.proofs.WayLemmas.{way_end, way_here, way_more}
 use Rattle.rdb_tree.proofs.insert.descend.Goals as goal
 
 pub returns-then-eq-clause-way : goal.returns-then-eq-clause-way

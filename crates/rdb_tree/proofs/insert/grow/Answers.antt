@@ -1,11 +1,9 @@
-use Rattle.std.proofs.Common.{◌≡◌, ◌≤◌, ◌∷◌, [], List, length, refl, sym, ap, ap₂, ◌∙◌, arith}
+use Rattle.std.proofs.Common.{refl, ap, ap₂, ◌∙◌}
 use Rattle.rdb_pages.specs.declared.cell.Cell.{Cell}
-use Rattle.rdb_pages.specs.declared.cell.CellRef.{CellRef}
-use Rattle.rdb_cells.specs.HeadFormat.{index_head_cell, rooted_head}
+use Rattle.rdb_cells.specs.HeadFormat.{index_head_cell}
 use Rattle.rdb_cells.specs.TreeFormat.{tree_node_cell}
-use Rattle.rdb_cells.specs.Work.{Work, work}
+use Rattle.rdb_cells.specs.Work.{work}
 use Rattle.rdb_cells.proofs.WorkLemmas.{put_work, take_work, put_is, take_is}
-use Rattle.rdb_tree.specs.Changes.{cell_of}
 use Rattle.rdb_tree.proofs.insert.grow.Goals as goal
 
 pub returns-clause-root : goal.returns-clause-root

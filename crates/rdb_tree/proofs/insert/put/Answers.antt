@@ -1,4 +1,4 @@
-use Rattle.std.proofs.Common.{◌≡◌, ◌++◌, ◌∷◌, [], List, refl, sym, ap, subst, ◌∙◌, arith}
+use Rattle.std.proofs.Common.{sym, ◌∙◌}
 use borrow.Author.Tests.{eqb-true, eqb-false}
 use Rattle.rdb_cells.specs.Keys.{says}
 use Rattle.rdb_cells.specs.Work.{work, reading}

@@ -1,12 +1,11 @@
-use Rattle.std.proofs.Common.{◌≡◌, ◌≤◌, ◌<◌, ◌+◌, ◌++◌, ◌∷◌, List, length, take, drop, slice_get, Some, refl, sym, ap, ap₂, subst, ◌∙◌, arith}
-use Rattle.rdb_pages.specs.declared.cell.Cell.{Cell}
+use Rattle.std.proofs.Common.{List, length, slice_get, refl, sym, ap, ap₂, subst, ◌∙◌, arith}
 use Rattle.rdb_pages.specs.declared.cell.CellRef.{CellRef}
-use Rattle.rdb_cells.specs.TreeFormat.{tree_node_cell, most_keys}
-use Rattle.rdb_cells.specs.Work.{Work, work, reading}
+use Rattle.rdb_cells.specs.TreeFormat.{tree_node_cell}
+use Rattle.rdb_cells.specs.Work.{work, reading}
 use Rattle.rdb_cells.proofs.WorkLemmas.{put_work, put_is}
-use Rattle.rdb_tree.specs.Changes.{cell_of, split_work, raised_keys, raised_children, FitsKeys, FitsPlace}
+use Rattle.rdb_tree.specs.Changes.{split_work, raised_keys, raised_children, FitsKeys, FitsPlace}
 use Rattle.rdb_tree.specs.Trees.{node_with}
-use Rattle.rdb_tree.proofs.ChangeLemmas.{node_children_few, node_read, node_few, node_keys, node_children, one_key_more, raised_fits, fits_place, few_children}
+use Rattle.rdb_tree.proofs.ChangeLemmas.{node_children_few, node_few, node_keys, node_children, one_key_more, raised_fits, fits_place, few_children}
 use Rattle.rdb_tree.proofs.insert.put_into.Goals as goal
 
 pub keys_of-requires : goal.keys_of-requires

@@ -1,11 +1,9 @@
-use Rattle.std.proofs.Common.{◌≡◌, ◌≤◌, List, length, take, drop, refl, sym, ap, ap₂, ◌∙◌, arith}
+use Rattle.std.proofs.Common.{◌≡◌, take, drop, refl, ap, ap₂, ◌∙◌, arith}
 use Rattle.rdb_pages.specs.declared.cell.Cell.{Cell}
-use Rattle.rdb_pages.specs.declared.cell.CellRef.{CellRef}
-use Rattle.rdb_cells.specs.declared.formats.tree.TreeNode.{TreeNode}
 use Rattle.rdb_cells.specs.TreeFormat.{tree_node_cell}
-use Rattle.rdb_cells.specs.Work.{Work, work}
+use Rattle.rdb_cells.specs.Work.{work}
 use Rattle.rdb_cells.proofs.WorkLemmas.{put_work, take_work, put_is, take_is}
-use Rattle.rdb_tree.specs.Changes.{cell_of, split_work}
+use Rattle.rdb_tree.specs.Changes.{cell_of}
 use Rattle.rdb_tree.specs.Trees.{node_with}
 use Rattle.rdb_tree.proofs.RowLemmas.{take_within}
 use Rattle.rdb_tree.proofs.insert.split.Goals as goal

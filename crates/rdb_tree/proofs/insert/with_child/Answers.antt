@@ -1,7 +1,6 @@
-use Rattle.std.proofs.Common.{◌≡◌, ◌≤◌, ◌+◌, sym, ◌∙◌}
+use Rattle.std.proofs.Common.{sym, ◌∙◌}
 use Rattle.rdb_tree.specs.Changes.{raised_children}
-use Rattle.rdb_pages.specs.declared.cell.CellRef.{CellRef}
-use Rattle.std.proofs.Common.{List, ap}
+use Rattle.std.proofs.Common.{ap}
 use Rattle.rdb_tree.proofs.ChangeLemmas.{nil_if, raised_some, some_place}
 use Rattle.rdb_tree.proofs.insert.with_child.Goals as goal
 

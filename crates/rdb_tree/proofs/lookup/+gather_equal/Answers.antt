@@ -1,4 +1,4 @@
-use Rattle.std.proofs.Common.{◌≡◌, ◌+◌, ◌-◌, ◌≤◌, ◌<◌, ◌++◌, ◌∷◌, [], ℕ, List, None, slice_get, Some, length, drop, get_or, sym, ap, ap₂, subst, ◌∙◌, arith, refl}
+use Rattle.std.proofs.Common.{◌≡◌, ◌+◌, ◌-◌, ◌++◌, ◌∷◌, [], ℕ, List, None, slice_get, Some, length, drop, get_or, sym, ap, subst, ◌∙◌, arith}
 use Rattle.std.specs.List.{filter, Contains}
 use Rattle.std.specs.Option.{ForSome}
 use Rattle.std.specs.Ordering.{is_lt, is_le, is_eq}
@@ -6,9 +6,9 @@ use Rattle.rdb_pages.specs.declared.cell.CellRef.{CellRef}
 use Rattle.rdb_cells.specs.Keys.{says, key_order}
 use Rattle.rdb_tree.specs.Lookups.{has_key}
 use Rattle.rdb_tree.specs.Order.{AreKeyed}
-use Rattle.rdb_tree.specs.Trees.{BTree, IsTreeAt, versions, woven, roots, keys_in, children_in}
+use Rattle.rdb_tree.specs.Trees.{BTree, IsTreeAt, versions, woven}
 use Rattle.rdb_tree.proofs.EqualLemmas.{step_less, step_equal, end_past, end_equal, child_keyed, own_keyed}
-use Rattle.rdb_tree.proofs.GatherLemmas.{IsChild, parts_of, woven_is, at_cell, at_read, at_few, at_keys, at_children, at_leaf, leaf_versions, inner_child, inner_parts, on_ok}
+use Rattle.rdb_tree.proofs.GatherLemmas.{parts_of, woven_is, at_cell, at_few, at_keys, at_children, at_leaf, leaf_versions, inner_child, inner_parts, on_ok}
 use Rattle.rdb_tree.proofs.SearchLemmas.{test_key, within}
 use Rattle.rdb_tree.proofs.lookup.+gather_equal.Goals as goal
 use Rattle.rdb_tree.proofs.lookup.+gather_equal.Goals.{in-Less, in-Equal+in_ok-gather_equal-in-Equal+in_ok-push-in-Equal}

@@ -1,7 +1,7 @@
-use Rattle.std.proofs.Common.{◌≡◌, ◌+◌, ◌-◌, ◌≤◌, ◌<◌, ◌++◌, ◌∷◌, [], ℕ, List, slice_get, Some, length, drop, get_or, sym, ap, ap₂, subst, ◌∙◌, arith, refl}
+use Rattle.std.proofs.Common.{◌≡◌, ◌-◌, ◌++◌, ◌∷◌, [], ℕ, List, slice_get, Some, length, get_or, sym, ap, subst, ◌∙◌, arith}
 use Rattle.rdb_pages.specs.declared.cell.CellRef.{CellRef}
-use Rattle.rdb_tree.specs.Trees.{BTree, IsTreeAt, versions, woven, roots, keys_in, children_in}
-use Rattle.rdb_tree.proofs.GatherLemmas.{IsChild, parts_of, woven_is, at_cell, at_read, at_few, at_keys, at_children, at_leaf, leaf_versions, inner_child, inner_parts, gather_step, gather_end, on_ok}
+use Rattle.rdb_tree.specs.Trees.{BTree, IsTreeAt, versions}
+use Rattle.rdb_tree.proofs.GatherLemmas.{parts_of, woven_is, at_cell, at_few, at_keys, at_children, at_leaf, leaf_versions, inner_child, inner_parts, gather_step, gather_end, on_ok}
 use Rattle.rdb_tree.proofs.lookup.+gather_versions.Goals as goal
 
 pub node_at-node-requires : goal.node_at-node-requires

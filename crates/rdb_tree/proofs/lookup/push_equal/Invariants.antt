@@ -1,8 +1,7 @@
-use Rattle.std.proofs.Common.{◌≡◌, ◌++◌, take, drop}
+use Rattle.std.proofs.Common.{◌≡◌, ◌++◌, drop}
 use Rattle.std.specs.List.{filter}
 use Rattle.rdb_cells.specs.Keys.{says}
 use Rattle.rdb_tree.specs.Lookups.{has_key}
-use Rattle.rdb_tree.proofs.EqualLemmas.{row_step}
 use Rattle.rdb_tree.proofs.lookup.push_equal.Given as goal
 
 abbrev pub invariant-loop-place : goal.invariant-loop-place

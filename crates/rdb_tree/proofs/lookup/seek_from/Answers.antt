@@ -1,4 +1,4 @@
-use Rattle.std.proofs.Common.{◌≡◌, ◌≢◌, ◌+◌, ◌*◌, ◌≤◌, ◌<◌, List, length, ap, arith, rules, None, refl, sym, ◌∙◌, subst}
+use Rattle.std.proofs.Common.{◌≤◌, List, length, ap, arith, sym, ◌∙◌, subst}
 use Rattle.std.proofs.lemmas.List.Sums.{prefix_len-le-length}
 use Rattle.std.specs.List.{Contains, prefix_len}
 use borrow.Author.Tests.{eqb-true, eqb-false}
@@ -6,8 +6,7 @@ use Rattle.rdb_pages.specs.declared.cell.CellRef.{CellRef}
 use Rattle.rdb_cells.specs.Keys.{says}
 use Rattle.rdb_cells.specs.TreeFormat.{most_keys}
 use Rattle.rdb_tree.specs.Lookups.{is_near, first_of, key_beyond}
-use Rattle.rdb_tree.specs.Trees.{keys_in, levels_of}
-use Rattle.rdb_tree.proofs.SoughtLemmas.{IsSought, sought_first, sought_found, sought_levels, sought_more, here_is, here_cell, here_few, here_keyed}
+use Rattle.rdb_tree.proofs.SoughtLemmas.{sought_found, sought_more, here_is, here_cell, here_few, here_keyed}
 use Rattle.rdb_tree.proofs.RowLemmas.{take_within}
 use Rattle.rdb_tree.proofs.lookup.seek_from.Goals as goal
 

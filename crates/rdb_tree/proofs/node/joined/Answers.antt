@@ -1,5 +1,4 @@
-use Rattle.std.proofs.Common.{◌≡◌, ◌+◌, ◌-◌, ◌∷◌, ◌++◌, List, length, take, drop, refl, subst, sym, ap}
-use Rattle.rdb_pages.specs.declared.cell.CellRef.{CellRef}
+use Rattle.std.proofs.Common.{◌+◌, length, refl}
 use Rattle.rdb_tree.proofs.RowLemmas.{three_runs}
 use Rattle.rdb_tree.proofs.node.joined.Goals as goal
 

@@ -1,5 +1,4 @@
-use Rattle.std.proofs.Common.{◌≡◌, ◌++◌, List, length, refl, ap, ◌∙◌}
-use Rattle.rdb_pages.specs.declared.cell.CellRef.{CellRef}
+use Rattle.std.proofs.Common.{◌++◌, length, refl, ◌∙◌}
 use Rattle.rdb_tree.proofs.RowLemmas.{rest_blank, empty_or}
 use Rattle.rdb_tree.proofs.node.node_of.Goals as goal
 

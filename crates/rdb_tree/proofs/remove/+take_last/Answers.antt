@@ -1,11 +1,10 @@
-use Rattle.std.proofs.Common.{◌≡◌, ◌≤◌, ◌<◌, ◌+◌, ◌-◌, ◌*◌, List, length, take, slice_get, refl, sym, ap, ap₂, ◌∙◌, arith}
+use Rattle.std.proofs.Common.{◌-◌, List, length, take, slice_get, sym, ap, ap₂, ◌∙◌, arith}
 use Rattle.std.proofs.lemmas.List.{length-take-le}
 use Rattle.std.specs.Option.{unwrap_or}
 use Rattle.rdb_pages.specs.declared.cell.CellRef.{CellRef}
 use Rattle.rdb_cells.specs.declared.formats.tree.TreeNode.{TreeNode}
 use Rattle.rdb_cells.specs.Words.{no_ref}
-use Rattle.rdb_cells.specs.Work.{Work, work, reading}
-use Rattle.rdb_tree.specs.Changes.{cell_of, with_cell}
+use Rattle.rdb_cells.specs.Work.{work, reading}
 use Rattle.rdb_tree.specs.Trees.{roots, least_keys}
 use Rattle.rdb_tree.proofs.ChangeLemmas.{node_cell, node_few, node_keys, node_children, node_read}
 use Rattle.rdb_tree.proofs.LossLemmas.{branch_node}

@@ -1,15 +1,15 @@
-use Rattle.std.proofs.Common.{◌≡◌, ◌≤◌, ◌<◌, ◌+◌, ◌-◌, ◌*◌, List, length, slice_get, Some, refl, sym, ap, ap₂, subst, ◌∙◌, arith}
+use Rattle.std.proofs.Common.{◌≡◌, List, length, slice_get, Some, sym, ap, ap₂, subst, ◌∙◌, arith}
 use Rattle.std.specs.List.{Contains, prefix_len}
 use Rattle.std.specs.Option.{unwrap_or}
 use Rattle.rdb_pages.specs.declared.cell.CellRef.{CellRef}
 use Rattle.rdb_cells.specs.declared.formats.tree.TreeNode.{TreeNode}
 use Rattle.rdb_cells.specs.Keys.{says}
 use Rattle.rdb_cells.specs.Words.{no_ref}
-use Rattle.rdb_cells.specs.Work.{Work, work, reading}
+use Rattle.rdb_cells.specs.Work.{work, reading}
 use Rattle.rdb_tree.specs.Changes.{cell_of, with_cell, without, replaced_at}
 use Rattle.rdb_tree.specs.Order.{is_before}
-use Rattle.rdb_tree.specs.Trees.{roots, versions}
-use Rattle.rdb_tree.proofs.ChangeLemmas.{node_cell, node_few, node_keys, node_children, node_children_few, node_read, below_there, length_without, length_replaced}
+use Rattle.rdb_tree.specs.Trees.{roots}
+use Rattle.rdb_tree.proofs.ChangeLemmas.{node_cell, node_few, node_keys, node_children, node_read, below_there, length_without, length_replaced}
 use Rattle.rdb_tree.proofs.LossLemmas.{branch_node}
 use Rattle.rdb_tree.proofs.NodeLemmas.{few_keys}
 use Rattle.rdb_tree.proofs.TakeLemmas.{home_keyed, home_keys, leaf_place, leaf_ends, home_child, home_last, child_short, child_lost, key_short, key_lost, key_room, key_cell}

@@ -1,7 +1,7 @@
-use Rattle.std.proofs.Common.{◌≡◌, List, length, refl, sym, ap, ◌∙◌, ltb}
+use Rattle.std.proofs.Common.{length, ap, ◌∙◌}
 use Rattle.std.specs.Prelude.{nat_lt}
 use Rattle.rdb_pages.specs.declared.cell.CellRef.{CellRef}
-use Rattle.rdb_cells.specs.Work.{Work, work, reading}
+use Rattle.rdb_cells.specs.Work.{work, reading}
 use Rattle.rdb_tree.proofs.ChangeLemmas.{node_cell, node_few, node_keys}
 use Rattle.rdb_tree.proofs.remove.can_spare.Goals as goal
 

@@ -1,14 +1,12 @@
-use Rattle.std.proofs.Common.{◌≡◌, ◌≤◌, ◌<◌, List, [], ◌∷◌, length, slice_get, refl, sym, ap, ap₂, ◌∙◌, arith}
+use Rattle.std.proofs.Common.{List, slice_get, ap, ap₂, ◌∙◌, arith}
 use Rattle.std.specs.Option.{unwrap_or}
-use Rattle.rdb_pages.specs.Pages.{zero_cell}
 use Rattle.rdb_pages.specs.declared.cell.Cell.{Cell}
 use Rattle.rdb_pages.specs.declared.cell.CellRef.{CellRef}
 use Rattle.rdb_cells.specs.HeadFormat.{index_head_cell, rooted_head}
 use Rattle.rdb_cells.specs.declared.formats.tree.TreeNode.{TreeNode}
 use Rattle.rdb_cells.specs.Words.{no_ref}
 use Rattle.rdb_cells.specs.Work.{Work, work, reading}
-use Rattle.rdb_tree.specs.Changes.{IsNodeAt, with_cell}
-use Rattle.rdb_tree.specs.Losses.{LowersRoot}
+use Rattle.rdb_tree.specs.Changes.{with_cell}
 use Rattle.rdb_tree.proofs.ChangeLemmas.{node_cell, node_few, node_children, node_read}
 use Rattle.rdb_tree.proofs.RemoveLemmas.{root_stays, root_goes}
 use Rattle.rdb_tree.proofs.remove.lower_root.Goals as goal

@@ -1,9 +1,9 @@
-use Rattle.std.proofs.Common.{◌≡◌, ◌≤◌, ◌<◌, ◌+◌, suc, length, sym, ap, ◌∙◌, arith}
+use Rattle.std.proofs.Common.{◌<◌, suc, length, sym, ap, ◌∙◌, arith}
 use Rattle.rdb_cells.specs.Work.{work, reading}
 use Rattle.rdb_pages.specs.declared.cell.CellRef.{CellRef}
-use Rattle.rdb_tree.specs.Trees.{Node, BTree, roots}
+use Rattle.rdb_tree.specs.Trees.{BTree, roots}
 use Rattle.rdb_tree.proofs.WovenLemmas.{length_map}
-use Rattle.rdb_tree.proofs.ChangeLemmas.{node_cell, node_few, node_keys, node_children}
+use Rattle.rdb_tree.proofs.ChangeLemmas.{node_few, node_keys, node_children}
 use Rattle.rdb_tree.proofs.ShortEnds.{parent_node, place_bound, first_below, inner_below, children_few, short_node, enough_ends, left_keys, left_children, left_node, left_siblings, left_shared, left_merge_siblings, left_merged, right_node, right_siblings, right_shared, right_merge_siblings, right_merged, behind_there}
 use Rattle.rdb_tree.proofs.remove.mend.Goals as goal
 

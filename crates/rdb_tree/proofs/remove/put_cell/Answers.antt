@@ -1,7 +1,7 @@
-use Rattle.std.proofs.Common.{◌≡◌, ◌≤◌, ◌+◌, ℕ, length, refl, sym, subst, ◌∙◌}
+use Rattle.std.proofs.Common.{◌≤◌, ◌+◌, length, refl, sym, subst}
 use Rattle.rdb_cells.specs.Images.{IsCell}
 use Rattle.rdb_cells.specs.Work.{Work, work, reading}
-use Rattle.rdb_cells.proofs.WorkLemmas.{put_work, put_is, put_longer}
+use Rattle.rdb_cells.proofs.WorkLemmas.{put_is, put_longer}
 use Rattle.rdb_tree.proofs.ChangeLemmas.{still_cell}
 use Rattle.rdb_tree.proofs.remove.put_cell.Goals as goal
 

@@ -1,6 +1,6 @@
-use Rattle.std.proofs.Common.{◌≡◌, refl, ap, ◌∙◌}
+use Rattle.std.proofs.Common.{ap, ◌∙◌}
 use Rattle.rdb_cells.specs.TreeFormat.{tree_node_cell}
-use Rattle.rdb_cells.specs.Work.{Work, work}
+use Rattle.rdb_cells.specs.Work.{work}
 use Rattle.rdb_tree.specs.Changes.{with_cell}
 use Rattle.rdb_tree.proofs.remove.put_node.Goals as goal
 

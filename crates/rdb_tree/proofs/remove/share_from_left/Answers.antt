@@ -1,12 +1,9 @@
-use Rattle.std.proofs.Common.{◌≡◌, ◌≤◌, ◌<◌, ◌+◌, ◌-◌, ◌++◌, ◌∷◌, [], ℕ, List, length, length-append, take, drop, get_or, suc, refl, sym, ap, ap₂, subst, ◌∙◌, arith}
-use Rattle.rdb_pages.specs.Pages.{zero_cell}
+use Rattle.std.proofs.Common.{◌≡◌, ◌-◌, ◌++◌, ◌∷◌, List, length, take, drop, get_or, ap, ap₂, ◌∙◌, arith}
 use Rattle.rdb_pages.specs.declared.cell.CellRef.{CellRef}
-use Rattle.rdb_cells.specs.Images.{IsCell}
 use Rattle.rdb_cells.specs.Work.{Work, work, reading}
 use Rattle.rdb_cells.specs.Words.{no_ref}
-use Rattle.rdb_tree.specs.Changes.{Siblings, with_cell, cell_of, replaced_at, without}
-use Rattle.rdb_tree.specs.Trees.{node_with, keys_in, children_in}
-use Rattle.rdb_tree.proofs.ChangeLemmas.{key_below, child_below, between_is, left_is, right_is, node_cell, node_read, node_few, first_dropped, length_replaced, length_without, left_moved, right_moved, all_children, left_keys_read, left_children_read, right_keys_read, right_children_read}
+use Rattle.rdb_tree.specs.Changes.{with_cell, cell_of, replaced_at}
+use Rattle.rdb_tree.proofs.ChangeLemmas.{key_below, first_dropped, length_replaced, left_moved, left_keys_read, left_children_read, right_keys_read, right_children_read}
 use Rattle.rdb_tree.proofs.remove.share_from_left.Goals as goal
 
 pub put_node-requires-2-clause-children : goal.put_node-requires-2-clause-children

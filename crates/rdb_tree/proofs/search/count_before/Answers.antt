@@ -1,9 +1,9 @@
-use Rattle.std.proofs.Common.{◌≡◌, ◌+◌, ◌≤◌, ◌<◌, ◌∙◌, length, get_or, ap, arith, true, Some, IsSome}
-use Rattle.std.specs.Ordering.{is_lt, is_some_and}
+use Rattle.std.proofs.Common.{◌∙◌, get_or, ap}
+use Rattle.std.specs.Ordering.{is_lt}
 use Rattle.rdb_pages.specs.declared.cell.CellRef.{CellRef}
-use Rattle.rdb_cells.specs.Keys.{HasKey, says}
-use Rattle.rdb_tree.specs.Order.{is_before, goes}
-use Rattle.rdb_tree.proofs.SearchLemmas.{one_more, stops, all_pass, test_both, not_less, within}
+use Rattle.rdb_cells.specs.Keys.{says}
+use Rattle.rdb_tree.specs.Order.{is_before}
+use Rattle.rdb_tree.proofs.SearchLemmas.{one_more, stops, test_both, not_less, within}
 use Rattle.rdb_tree.proofs.search.count_before.Goals as goal
 
 pub returns-in_default : goal.returns-in_default

@@ -1,4 +1,4 @@
-use Rattle.std.proofs.Common.{◌≡◌, ◌+◌, ◌≤◌, ◌<◌, ◌∙◌, sym, length, get_or, ap, arith, true, Some}
+use Rattle.std.proofs.Common.{◌∙◌, sym, get_or, arith, Some}
 use Rattle.rdb_pages.specs.declared.cell.CellRef.{CellRef}
 use Rattle.rdb_cells.specs.Keys.{says}
 use Rattle.rdb_tree.specs.Lookups.{goes_near}

@@ -1,4 +1,4 @@
-use Rattle.std.proofs.Common.{◌≡◌, ◌≤◌, ◌++◌, List, length, sym, ap, subst, ◌∙◌, arith}
+use Rattle.std.proofs.Common.{◌++◌, List, sym, ap, ◌∙◌}
 use Rattle.std.specs.List.{filter}
 use borrow.Author.Tests.{eqb-true, eqb-false}
 use Rattle.rdb_pages.specs.declared.cell.CellRef.{CellRef}

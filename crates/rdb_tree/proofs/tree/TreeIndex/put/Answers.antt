@@ -1,5 +1,5 @@
-use Rattle.std.proofs.Common.{◌≡◌, ◌≤◌, ◌+◌, ◌*◌, length, refl, arith}
-use Rattle.rdb_cells.specs.Work.{work, reading}
+use Rattle.std.proofs.Common.{length, arith}
+use Rattle.rdb_cells.specs.Work.{work}
 use Rattle.rdb_tree.proofs.ChangedLemmas.{version_cells, own_alone}
 use Rattle.rdb_tree.proofs.PutLaws.{puts, takes_more}
 use Rattle.rdb_tree.proofs.tree.TreeIndex.put.Goals as goal
