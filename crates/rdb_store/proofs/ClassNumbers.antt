@@ -3,7 +3,7 @@ use Rattle.std.proofs.Common.{◌≡◌, ◌+◌, ◌<◌, ◌++◌, ℕ, zero, 
 use Rattle.std.specs.Option.{option_map_or}
 use Rattle.rdb_schema.specs.declared.schema.Schema.{Schema}
 use Rattle.rdb_store.specs.Kept.{AreNumbered}
-use Rattle.rdb_store.specs.Shapes.{ClassShape, class_shape, no_class, shapes_from, shape_in}
+use Rattle.rdb_store.specs.Shapes.{ClassShape, class_shape, no_class, shapes_from, shapes_of, shape_in}
 
 pub one_class_more : (schema : Schema) (first count : ℕ) → shapes_from schema first (suc count) ≡ shapes_from schema first count ++ class_shape schema (first + count) ∷ []
 one_class_more schema first zero = let same : first ≡ first + 0 = omega arith in ap (λ n. class_shape schema n ∷ []) same
@@ -46,3 +46,8 @@ schema_shape schema first (suc count) (suc class) below =
 pub many_shapes : (schema : Schema) (first count : ℕ) → length (shapes_from schema first count) ≡ count
 many_shapes schema first zero = refl
 many_shapes schema first (suc count) = ap suc (many_shapes schema (suc first) count)
+
+pub schema_class_shape : (schema : Schema) (class : ℕ) → class < length schema.classes → shape_in (shapes_of schema) class ≡ class_shape schema class
+schema_class_shape schema class below =
+    let same : 0 + class ≡ class = omega arith in
+    schema_shape schema 0 (length schema.classes) class below ∙ ap (class_shape schema) same

@@ -1,9 +1,9 @@
 //! The laws of what the cells of a class hold. Each call does nothing.
-ghost use Rattle.std.specs.Prelude.{◌<◌, ℕ, length};
+ghost use Rattle.std.specs.Prelude.{◌≡◌, ◌<◌, ℕ, length};
 ghost use Rattle.rdb_schema.specs.declared.schema.Schema.{Schema};
 ghost use Rattle.rdb_schema.specs.Schemas.{IsSchema};
 ghost use Rattle.rdb_store.specs.Laws.{RestsOnClass, RestsOnGrants, StartsEmpty, RestsOnStamps, HoldsOne};
-ghost use Rattle.rdb_store.specs.Shapes.{IsServed, schema_class};
+ghost use Rattle.rdb_store.specs.Shapes.{IsServed, class_shape, schema_class, shape_in, shapes_of};
 
 /// The law of the frame: what a class holds rests on its own cells alone, so a write in another class changes nothing of it.
 pub fn classes_rest_on_their_cells()
@@ -32,4 +32,11 @@ pub fn stamps_change_the_stamp()
 /// An image holds one list of objects of a class at most.
 pub fn an_image_holds_one_list()
     ensures { (schema : Schema) (class : ℕ) → HoldsOne (schema_class schema class) }
+{}
+
+/// The store of a schema keeps each of the schema's classes, and no other, under its number.
+pub fn a_store_keeps_the_classes_of_its_schema()
+    ensures many { (schema : Schema) → length (shapes_of schema) ≡ length schema.classes }
+    ensures each { (schema : Schema) (class : ℕ) → class < length schema.classes →
+        shape_in (shapes_of schema) class ≡ class_shape schema class }
 {}

@@ -18,8 +18,8 @@ pub use class_index::ClassIndex;
 pub use class_store::{ClassStore, KeyedIndex};
 pub use keyed::Keyed;
 pub use laws::{
-    an_empty_class_holds_nothing, an_image_holds_one_list, classes_rest_on_their_cells,
-    granted_pages_change_nothing, stamps_change_the_stamp,
+    a_store_keeps_the_classes_of_its_schema, an_empty_class_holds_nothing, an_image_holds_one_list,
+    classes_rest_on_their_cells, granted_pages_change_nothing, stamps_change_the_stamp,
 };
 pub use plans::NewVersion;
 pub use store::Store;

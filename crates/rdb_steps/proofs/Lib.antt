@@ -1,0 +1,10 @@
+pub mod ListLemmas
+pub mod GrantLemmas
+pub mod LatchLemmas
+pub mod StampLemmas
+pub mod PlanLemmas
+pub mod HandLemmas
+pub mod OwnLemmas
+pub mod PhaseLemmas
+pub mod DebtLemmas
+pub mod StoreLemmas

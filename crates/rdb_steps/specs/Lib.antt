@@ -1,0 +1,5 @@
+pub mod Kept
+pub mod Phases
+pub mod Lists
+pub mod Debt
+pub mod Invariant
