@@ -1,11 +1,9 @@
 -- The indexes that a schema declares for a class: their keys are leaves, and the store makes them one after another.
-use Rattle.std.proofs.Common.{◌≡◌, ◌+◌, ◌<◌, ◌≤◌, ◌⊎◌, ◌++◌, ℕ, zero, suc, Bool, true, false, List, [], ◌∷◌, length, length-append, map, take, slice_get, slice_index_or, Option, Some, None, IsTrue, inl, inr, refl, sym, ap, subst, ◌∙◌, arith}
-use Rattle.std.specs.Prelude.{IsSomeAnd}
+use Rattle.std.proofs.Common.{◌≡◌, ◌+◌, ◌<◌, ◌⊎◌, ◌++◌, ℕ, zero, suc, true, false, List, [], ◌∷◌, length, length-append, map, take, slice_get, Option, Some, None, IsTrue, inl, inr, refl, sym, ap, subst, ◌∙◌, arith}
 use Rattle.std.proofs.lemmas.Bool.{false≢true}
 use Rattle.std.proofs.lemmas.List.Elements.{recursion_from_All}
 use Rattle.std.specs.List.{All, AllByRecursion, Contains}
-use Rattle.std.specs.Option.{ForSome, option_map, option_map_or}
-use Rattle.rdb_base.specs.declared.limits.TheConstants.{MAX_INDEXES}
+use Rattle.std.specs.Option.{option_map, option_map_or}
 use Rattle.rdb_schema.specs.declared.schema.Class.{Class}
 use Rattle.rdb_schema.specs.declared.schema.Field.{Field}
 use Rattle.rdb_schema.specs.declared.schema.FieldType.{FieldType}
@@ -25,7 +23,7 @@ use Rattle.rdb_cells.specs.References.{max_classes, max_indexes}
 use Rattle.rdb_rows.specs.RowKeys.{KeyShape, AreLeaves, key_shape}
 use Rattle.rdb_store.specs.ClassIndexes.{kind_of, IsAt}
 use Rattle.rdb_store.specs.Kept.{shape_of, IsKeyedAt, AreIndexesOf}
-use Rattle.rdb_store.specs.Shapes.{IndexShape, ClassShape, index_shape, class_shape, is_served, IsServed}
+use Rattle.rdb_store.specs.Shapes.{index_shape, is_served, IsServed}
 use Rattle.rdb_store.specs.declared.class_index.ClassIndex.{ClassIndex}
 use Rattle.rdb_store.specs.declared.keyed.Keyed.{Keyed}
 

@@ -1,5 +1,5 @@
 -- The walk along an object's chain to its garbage version of the least commit.
-use Rattle.std.proofs.Common.{◌≡◌, ◌≢◌, ◌==◌, ◌+◌, ◌<◌, ◌≤◌, ◌⊎◌, ◌++◌, min, not, ℕ, suc, Bool, true, false, List, [], ◌∷◌, length, length-append, map, is_none, nat_le, nat_lt, Option, Some, None, inl, inr, refl, sym, ap, subst, ◌∙◌, if◌then◌else◌, arith, rules}
+use Rattle.std.proofs.Common.{◌≡◌, ◌≢◌, ◌==◌, ◌+◌, ◌<◌, ◌≤◌, ◌⊎◌, ◌++◌, min, not, ℕ, suc, Bool, true, false, List, [], ◌∷◌, length, length-append, map, is_none, nat_le, nat_lt, Option, Some, None, inl, inr, refl, sym, ap, subst, ◌∙◌, if◌then◌else◌, arith}
 use Rattle.std.proofs.lemmas.Bool.{ne_eqb, false≢true}
 use Rattle.std.proofs.lemmas.Bool.Decides.{nat_tests}
 use Rattle.std.proofs.lemmas.List.{append-nil, append_assoc}
@@ -16,7 +16,7 @@ use Rattle.rdb_objects.proofs.ChainLemmas.{chain_short}
 use Rattle.rdb_rows.specs.Versions.{HasVersion, HoldsVersion, is_tombstone, ForVersion}
 use Rattle.rdb_sight.specs.Garbage.{least_commit, is_garbage}
 use Rattle.rdb_sight.specs.Versions.{Version, is_garbage_among}
-use Rattle.rdb_store.specs.FirstGarbage.{IsGarbageIn, IsLinked, IsChain, Begins, TellsUnseen, IsFirstIn, IsSooner, commit_of, earlier, is_earlier, least_with}
+use Rattle.rdb_store.specs.FirstGarbage.{IsGarbageIn, IsChain, Begins, TellsUnseen, IsFirstIn, IsSooner, commit_of, earlier, is_earlier, least_with}
 use Rattle.rdb_store.specs.Stored.{refs_of}
 use Rattle.rdb_store.specs.declared.garbage.Unseen.{Unseen}
 

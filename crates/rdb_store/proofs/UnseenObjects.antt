@@ -1,7 +1,7 @@
 -- The walk over a class's objects to the first version that no reader can see any more.
-use Rattle.std.proofs.Common.{◌≡◌, ◌≢◌, ◌==◌, ◌+◌, ◌<◌, ◌≤◌, ◌⊎◌, ◌++◌, ℕ, suc, Bool, true, false, List, [], ◌∷◌, length, length-append, map, slice_get, Option, Some, None, IsSome, inl, inr, refl, sym, ap, subst, ◌∙◌, if◌then◌else◌, arith, rules}
+use Rattle.std.proofs.Common.{◌≡◌, ◌+◌, ◌<◌, ◌≤◌, ◌⊎◌, ◌++◌, ℕ, suc, List, [], ◌∷◌, length, length-append, slice_get, Option, Some, None, IsSome, inl, inr, refl, sym, ap, subst, ◌∙◌, arith, rules}
 use Rattle.std.proofs.Permutation.{which}
-use Rattle.std.proofs.lemmas.Bool.{eq-eqb, ne_eqb, false≢true}
+use Rattle.std.proofs.lemmas.Bool.{eq-eqb, ne_eqb}
 use Rattle.std.proofs.lemmas.List.{append-nil, append_assoc}
 use Rattle.std.specs.Option.{option_map, option_map_or, option_or}
 use Rattle.rdb_pages.specs.declared.cell.Cell.{Cell}
@@ -12,14 +12,14 @@ use Rattle.rdb_cells.specs.References.{last_head}
 use Rattle.rdb_cells.proofs.LinkLemmas.{few_below}
 use Rattle.rdb_objects.specs.declared.walk.Found.{Found}
 use Rattle.rdb_objects.specs.Objects.{Object as Linked, ids_of, versions_of, newest_of, SameObjects}
-use Rattle.rdb_objects.specs.Order.{IsFirst, Comes, AreInOrder, ListsInOrder, HasObject, InOrder, behind, told, object_of, objects_of, outward}
+use Rattle.rdb_objects.specs.Order.{Comes, AreInOrder, ListsInOrder, HasObject, InOrder, behind, told, objects_of, outward}
 use Rattle.rdb_objects.specs.Slots.{Slot, IsOneOf, AreSlots, AreVersions, cells_of}
 use Rattle.rdb_objects.proofs.ListOrder.{first_comes}
 use Rattle.rdb_objects.proofs.OrderLemmas.{before_never}
 use Rattle.rdb_objects.proofs.SortLemmas.{come_in_order}
 use Rattle.rdb_objects.proofs.TreeLemmas.{same_id}
 use Rattle.rdb_sight.specs.Versions.{Version, Object, chain_of}
-use Rattle.rdb_store.specs.FirstGarbage.{IsGarbageIn, IsNoLater, IsFirstUnseen, IsFirstGarbage, IsChain, Begins, HoldsChains, IsFirstIn, IsSooner}
+use Rattle.rdb_store.specs.FirstGarbage.{IsGarbageIn, IsNoLater, IsFirstGarbage, Begins, HoldsChains, IsFirstIn, IsSooner}
 use Rattle.rdb_store.specs.Stored.{refs_of, all_linked}
 use Rattle.rdb_store.specs.declared.garbage.Unseen.{Unseen}
 use Rattle.rdb_store.proofs.Storing.{linked_versions}

@@ -8,7 +8,6 @@ use Rattle.rdb_pages.specs.declared.cell.CellRef.{CellRef}
 use Rattle.rdb_objects.specs.Objects.{newest_of}
 use Rattle.rdb_objects.specs.Slots.{HoldsObjects, AreVersions}
 use Rattle.rdb_rows.specs.Versions.{Version as StoredVersion, HoldsVersion, is_tombstone}
-use Rattle.rdb_sight.specs.Garbage.{least_commit}
 use Rattle.rdb_sight.specs.Versions.{Version, Object, chain_of, is_garbage_among}
 use Rattle.rdb_store.specs.Stored.{refs_of, all_linked}
 use Rattle.rdb_store.specs.declared.garbage.Unseen.{Unseen}

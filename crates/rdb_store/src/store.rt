@@ -1,5 +1,5 @@
 //! The store of a schema's classes: what it keeps for each, and the plans that change what a class holds.
-ghost use Rattle.std.specs.Prelude.{◌≡◌, ◌<◌, ◌≤◌, ◌+◌, ◌≢◌, ◌↔◌, List, [], IfOk, IsTrue, None, Some, length};
+ghost use Rattle.std.specs.Prelude.{◌≡◌, ◌<◌, ◌≤◌, ◌≢◌, ◌↔◌, List, [], IfOk, IsTrue, None, length};
 ghost use Rattle.std.specs.List.{All};
 ghost use Rattle.rdb_base.specs.declared.value.Value.{Value};
 ghost use Rattle.rdb_schema.specs.Encodes.{Encodes};

@@ -1,4 +1,4 @@
-use Rattle.std.proofs.Common.{◌≡◌, List, length, slice_get, Some, sym, ap, ◌∙◌, arith}
+use Rattle.std.proofs.Common.{◌≡◌, List, length, slice_get, sym, ap, ◌∙◌, arith}
 use Rattle.rdb_schema.specs.declared.schema.IndexDecl.{IndexDecl}
 use Rattle.rdb_schema.specs.Indexes.{indexes_of}
 use Rattle.rdb_schema.specs.Types.{types_of}

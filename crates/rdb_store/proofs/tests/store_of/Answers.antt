@@ -1,4 +1,4 @@
-use Rattle.std.proofs.Common.{◌≡◌, ◌<◌, ℕ, List, length, sym, ap, subst, ◌∙◌, arith, rules}
+use Rattle.std.proofs.Common.{◌≡◌, ◌<◌, List, length, ap, ◌∙◌, arith, rules}
 use Rattle.rdb_store.specs.Shapes.{ClassShape}
 use Rattle.rdb_store.proofs.ClassNumbers.{many_shapes}
 use Rattle.rdb_store.proofs.tests.store_of.Goals as goal

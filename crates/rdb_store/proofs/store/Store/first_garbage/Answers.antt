@@ -1,4 +1,4 @@
-use Rattle.std.proofs.Common.{◌≡◌, ℕ, sym, ap, subst, ◌∙◌}
+use Rattle.std.proofs.Common.{ℕ, sym, ap, subst, ◌∙◌}
 use Rattle.rdb_store.specs.FirstGarbage.{HoldsChains}
 use Rattle.rdb_store.specs.Shapes.{ClassShape, class_in}
 use Rattle.rdb_store.proofs.HeldChains.{holds_chains}
