@@ -15,6 +15,7 @@ put-requires-clause-lacks g c =
       nodes = [];
       lists = c.requires.empty;
       unlisted = unlisted_beside said c.args.first [] [] (lists_less said (c.args.first ∷ []) c.args.second c.requires.versions) (IsPermutation-refl []);
+      taken = λ v now. tt;
     }
 
 pub put-requires-clause-free : goal.put-requires-clause-free
@@ -31,7 +32,7 @@ put-requires-2-clause-lacks g c =
     let first_new = unlisted_beside said c.args.first [] [] (lists_less said (c.args.first ∷ []) c.args.second c.requires.versions) (IsPermutation-refl []) in
     let first_came = c.put.ensures.puts [] [] c.requires.empty first_new in
     let second_new = unlisted_again keys before (reading (work g.C.Cells c.put.new.cells)) (g.met.K.Keys.rests_on_versions c.args.keys.now) c.put.ensures.versions first_came.0.listed c.args.second (unlisted_beside said c.args.second (c.args.first ∷ []) first_came.0.listed c.requires.versions first_came.1) in
-    record { listed = first_came.0.listed; nodes = first_came.0.now_nodes; lists = first_came.0.lists; unlisted = second_new }
+    record { listed = first_came.0.listed; nodes = first_came.0.now_nodes; lists = first_came.0.lists; unlisted = second_new; taken = λ v now. tt }
 
 pub equal-found-requires-clause-stands : goal.equal-found-requires-clause-stands
 equal-found-requires-clause-stands g c =
