@@ -1,0 +1,16 @@
+pub mod Walks
+pub mod Looks
+pub mod Pairs
+pub mod IdLists
+pub mod Listing
+pub mod Finding
+pub mod Seeking
+pub mod SeekSteps
+pub mod Clashing
+pub mod Classes
+pub mod Counting
+pub mod KeyIndexes
+pub mod Passing
+pub mod Replying
+pub mod Refusing
+pub mod ReadReplies

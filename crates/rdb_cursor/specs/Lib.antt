@@ -1,0 +1,5 @@
+pub mod Views
+pub mod Seeks
+pub mod Clashes
+pub mod Replies
+pub mod OneMark
