@@ -92,3 +92,13 @@ pub fn roll_back(t: &mut Transactions, c: ConnId) -> Answer
         Answer::More
     }
 }
+
+// Whether nothing is there to take back or to drop.
+fn is_clean(t: &Transactions, c: ConnId) -> bool
+    requires { Has t.now c (λ seat. IsSome seat.transaction) }
+    ensures clean { Of t.now c (λ seat open_one.
+        IsTrue result ↔ ((seat.hand.undo.pairs ≡ []) × (seat.hand.own.items ≡ []))) }
+{
+    let hand = &t.seat(c).hand;
+    hand.undo.len() == 0 && hand.own.is_empty()
+}

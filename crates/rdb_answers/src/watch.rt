@@ -67,3 +67,16 @@ pub fn poll(t: &mut Transactions, schema: &Schema, c: ConnId, class: u32, event:
         }),
     }
 }
+
+// The number of a connection's watch of an event, from 0, and the place where it stands.
+fn place_of_watch(t: &Transactions, c: ConnId, class: u32, event: u32) -> (usize, EventPlace)
+    requires { Has t.now c (λ seat. IsSome (watch_of class event seat.hand.subscriptions)) }
+    ensures { Has t.now c (λ seat. (watch_of class event seat.hand.subscriptions ≡ Some result.0) ×
+        ((watch : Subscription) × (slice_get seat.hand.subscriptions result.0 ≡ Some watch) × (watch.place ≡ result.1))) }
+{
+    let watches = &t.seat(c).hand.subscriptions;
+    match watched(watches, class, event) {
+        Some(number) => (number, watches.at(number).place),
+        None => unreachable!(),
+    }
+}

@@ -1,3 +1,5 @@
 pub mod EditLemmas
-pub mod SoundLemmas
+pub mod EndingLemmas
+pub mod OpeningLemmas
 pub mod PhaseLemmas
+pub mod SoundLemmas

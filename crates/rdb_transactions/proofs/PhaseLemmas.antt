@@ -1,8 +1,9 @@
 -- What each change of a record leaves of what its phase says.
-use Rattle.std.proofs.Common.{◌≡◌, ◌+◌, ◌≤◌, ◌++◌, ℕ, Bool, true, false, cond, List, [], ◌∷◌, length, filter_map, Option, Some, None, IsSome, IsSomeAnd, is_none, is_some, refl, sym, ap, subst, ◌∙◌, arith}
+use Rattle.std.proofs.Common.{◌≡◌, ◌+◌, ◌≤◌, ◌++◌, ℕ, Bool, true, false, cond, List, [], ◌∷◌, length, filter_map, Option, Some, None, IsSome, IsSomeAnd, is_none, is_some, refl, sym, ap, subst, ◌∙◌, ◌⊎◌, inl, inr, arith}
 use Rattle.std.specs.Option.{option_map, option_map_or}
 use Rattle.std.specs.List.{cons_option}
 use Rattle.std.proofs.lemmas.List.Elements.{filter_map-append}
+use Rattle.rdb_base.specs.declared.identity.ConnId.{ConnId}
 use Rattle.rdb_base.specs.declared.identity.Kind.{Kind}
 use Rattle.rdb_base.specs.declared.identity.Kind.TheVariants as kind
 use Rattle.rdb_base.specs.declared.identity.Manager.{Manager}
@@ -18,12 +19,14 @@ use Rattle.rdb_registry.specs.declared.hand.Subscription.{Subscription}
 use Rattle.rdb_registry.specs.declared.seat.Condemned.{Condemned}
 use Rattle.rdb_registry.specs.declared.seat.Seat.{Seat}
 use Rattle.rdb_registry.specs.declared.seat.Transaction.{Transaction}
-use Rattle.rdb_registry.specs.Seats.{with_condemned, marked, may_write}
-use Rattle.rdb_registry.proofs.SlotLemmas.{some_and_of, some_of}
+use Rattle.rdb_registry.specs.declared.hand.Work.{Work}
+use Rattle.rdb_registry.specs.Kept.{is_live}
+use Rattle.rdb_registry.specs.Seats.{with_condemned, marked, may_write, with_latches, all_latches, IsNew, Seats, seat_of, HasUnmarked}
+use Rattle.rdb_registry.proofs.SlotLemmas.{one_if, some_and_of, some_of, is_some_from}
 use Rattle.rdb_transactions.specs.Claims.{places_of, writes_of, writes_in, is_unmarked}
 use Rattle.rdb_transactions.specs.Hands.{without_story, with_story, noted, with_undo}
 use Rattle.rdb_transactions.specs.Phases.{IsAtRest, IsUnmarked, IsIdle, IsReading, IsRunning, IsWriting, IsRollingBack, IsStamping, IsInPhase}
-use Rattle.rdb_transactions.specs.Records.{on_hand, exchanged, latched, opened, closed, becomes_marked, rolls_back}
+use Rattle.rdb_transactions.specs.Records.{on_hand, is_single_writer, exchanged, spare_left, latched, unlatched, opened, closed, becomes_marked, rolls_back}
 use Rattle.rdb_transactions.specs.Sound.{IsOrderly}
 
 -- what a record of a phase is in
@@ -52,6 +55,10 @@ unmarked_kind seat k h = go seat.transaction h
     go : (o : Option Transaction) → IsSomeAnd o (λ t. (t.kind ≡ k) × (t.mark ≡ None)) → IsSomeAnd o (λ t. t.mark ≡ None)
     go None f = absurd f
     go (Some t) f = f.1
+
+-- 1 for an open transaction that has no mark
+pub one_open : (seat : Seat) (b : Bool) → is_unmarked seat ≡ b → one_if (is_unmarked seat) ≡ one_if b
+one_open seat b e = ap one_if e
 
 -- How what a record claims changes: so many places and writes before and after.
 pub record Claiming (before after : Seat) (places places' : ℕ) : Type 0 where
@@ -152,3 +159,180 @@ closed_phase manager.Mursiw spare seat work plan undo empty done = go (option_ma
     go : (b : Bool) → IsIdle (closed (cond b (on_hand (with_undo spare) seat) seat))
     go true = record { rest = record { work = work; plan = plan; undo = empty; latches = refl }; transaction = refl; cause = refl; done = done; own = refl }
     go false = record { rest = record { work = work; plan = plan; undo = undo; latches = refl }; transaction = refl; cause = refl; done = done; own = refl }
+
+-- a record in a phase, in order
+pub orderly_in : (n : ℕ) (p : Phase) (seat : Seat) → seat.hand.phase ≡ p → IsInPhase p seat → seat.begun ≤ n + cond (is_unmarked seat) 1 0 → IsOrderly n seat
+orderly_in n p seat is i begun = record { phase = subst (λ (q : Phase). IsInPhase q seat) (sym is) i; begun = begun }
+
+-- watches leave a record in order
+pub watching_orderly :
+    (n : ℕ) (watches : List Subscription) (seat : Seat) → IsOrderly n seat → seat.hand.phase ≡ phase.Idle
+    → IsOrderly n (record seat { hand = record seat.hand { subscriptions = watches } })
+watching_orderly n watches seat o idle =
+    orderly_in n phase.Idle (record seat { hand = record seat.hand { subscriptions = watches } }) idle (watching_phase watches seat (in_its_phase n seat phase.Idle o idle)) o.begun
+
+-- the single writer's changes leave another record
+pub latched_not : (m : Manager) (classes : ℕ) (seat : Seat) → is_single_writer m seat ≡ false → latched m classes seat ≡ seat
+latched_not m classes seat e = ap (λ b. cond b (with_latches (all_latches classes) seat) seat) e
+
+pub exchanged_not : (m : Manager) (spare : Record) (seat : Seat) → is_single_writer m seat ≡ false → exchanged m spare seat ≡ seat
+exchanged_not m spare seat e = ap (λ b. cond b (on_hand (with_undo spare) seat) seat) e
+
+-- whose record it is
+pub exchanged_conn : (m : Manager) (spare : Record) (seat : Seat) → (exchanged m spare seat).conn ≡ seat.conn
+exchanged_conn m spare seat = go (is_single_writer m seat)
+  where
+    go : (b : Bool) → (cond b (on_hand (with_undo spare) seat) seat).conn ≡ seat.conn
+    go true = refl
+    go false = refl
+
+pub exchanged_transaction : (m : Manager) (spare : Record) (seat : Seat) → (exchanged m spare seat).transaction ≡ seat.transaction
+exchanged_transaction m spare seat = go (is_single_writer m seat)
+  where
+    go : (b : Bool) → (cond b (on_hand (with_undo spare) seat) seat).transaction ≡ seat.transaction
+    go true = refl
+    go false = refl
+
+pub latched_conn : (m : Manager) (classes : ℕ) (seat : Seat) → (latched m classes seat).conn ≡ seat.conn
+latched_conn m classes seat = go (is_single_writer m seat)
+  where
+    go : (b : Bool) → (cond b (with_latches (all_latches classes) seat) seat).conn ≡ seat.conn
+    go true = refl
+    go false = refl
+
+pub unlatched_conn : (m : Manager) (seat : Seat) → (unlatched m seat).conn ≡ seat.conn
+unlatched_conn manager.Mursiw seat = refl
+unlatched_conn manager.Mvcc seat = refl
+
+-- what is spare after an exchange is empty where both were
+pub spare_empty : (m : Manager) (spare : Record) (seat : Seat) → spare.pairs ≡ [] → seat.hand.undo.pairs ≡ [] → (spare_left m spare seat).pairs ≡ []
+spare_empty m spare seat empty undo = go (is_single_writer m seat)
+  where
+    go : (b : Bool) → (cond b seat.hand.undo spare).pairs ≡ []
+    go true = undo
+    go false = empty
+
+-- what a closed record claims
+pub closed_places : (m : Manager) (spare : Record) (seat : Seat) → places_of (closed (exchanged m spare seat)) ≡ 1
+closed_places m spare seat = refl
+
+pub closed_writes : (m : Manager) (spare : Record) (seat : Seat) → writes_of (closed (exchanged m spare seat)) ≡ writes_of seat
+closed_writes m spare seat = go (is_single_writer m seat)
+  where
+    go : (b : Bool) → writes_of (closed (cond b (on_hand (with_undo spare) seat) seat)) ≡ writes_of seat
+    go true = refl
+    go false = refl
+
+pub closed_begun : (m : Manager) (spare : Record) (seat : Seat) → (closed (exchanged m spare seat)).begun ≡ seat.begun
+closed_begun m spare seat = go (is_single_writer m seat)
+  where
+    go : (b : Bool) → (closed (cond b (on_hand (with_undo spare) seat) seat)).begun ≡ seat.begun
+    go true = refl
+    go false = refl
+
+-- a closed record in order
+pub closed_orderly :
+    (m : Manager) (spare : Record) (n : ℕ) (seat : Seat) → seat.hand.work ≡ None → seat.hand.plan.pairs ≡ [] → seat.hand.undo.pairs ≡ [] → spare.pairs ≡ [] → seat.hand.done.items ≡ []
+    → seat.begun ≤ n → IsOrderly n (closed (exchanged m spare seat))
+closed_orderly m spare n seat work plan undo empty done le =
+    let same = closed_begun m spare seat in
+    let begun : (closed (exchanged m spare seat)).begun ≤ n + 0 = omega (arith, same) in
+    record { phase = closed_phase m spare seat work plan undo empty done; begun = begun }
+
+-- the writes that a record claims without an operation in work
+pub writes_done : (seat : Seat) → seat.hand.work ≡ None → writes_of seat ≡ writes_in seat.hand.done.items + 0
+writes_done seat none = ap (λ (o : Option Work). writes_in seat.hand.done.items + cond (is_some o) 1 0) none
+
+-- an idle record claims no write
+pub idle_writes : (seat : Seat) → IsIdle seat → writes_of seat ≡ 0
+idle_writes seat i = writes_done seat i.rest.work ∙ ap (λ (d : List (Op × Reply)). writes_in d + 0) i.done
+
+-- a connection that wasn't condemned
+pub live_there : (o : Option Seat) → is_live o ≡ true → (seat : Seat) × ((o ≡ Some seat) × (seat.condemned ≡ None))
+live_there None e = absurd cc
+live_there (Some seat) e = (seat, (refl, none seat.condemned e))
+  where
+    none : (x : Option Condemned) → is_none x ≡ true → x ≡ None
+    none None f = refl
+    none (Some y) f = absurd cc
+
+-- a record as it is made is in order
+pub new_orderly : (n : ℕ) (c : ConnId) (seat : Seat) → IsNew c seat → IsOrderly n seat
+new_orderly n c seat i =
+    let begun = i.begun in
+    orderly_in n phase.Idle seat i.hand.clear.phase
+    (record { rest = record { work = i.hand.clear.work; plan = i.hand.clear.plan; undo = i.hand.clear.undo; latches = i.latches }; transaction = i.transaction; cause = i.hand.clear.cause; done = i.hand.clear.done; own = i.hand.clear.own })
+    (omega (arith, begun))
+
+pub new_claims : (c : ConnId) (seat : Seat) → IsNew c seat → (places_of seat ≡ 1) × (writes_of seat ≡ 0)
+new_claims c seat i =
+    (ap (λ b. cond b 2 1) (unmarked_none seat i.transaction), writes_done seat i.hand.clear.work ∙ ap (λ (d : List (Op × Reply)). writes_in d + 0) i.hand.clear.done)
+
+-- the kind of a reader
+pub reader_not_single : (m : Manager) (seat : Seat) → IsSomeAnd seat.transaction (λ t. (t.kind ≡ kind.ReadOnly) × (t.mark ≡ None)) → is_single_writer m seat ≡ false
+reader_not_single manager.Mvcc seat h = refl
+reader_not_single manager.Mursiw seat h =
+    let t = some_and_of (λ (t : Transaction). (t.kind ≡ kind.ReadOnly) × (t.mark ≡ None)) seat.transaction h in
+    ap (λ (o : Option Transaction). option_map_or (λ x. may_write x.kind) o false) t.1.0 ∙ ap may_write t.1.1.0
+
+-- in every phase but the first a transaction is open
+pub open_in_phase : (p : Phase) (seat : Seat) → IsInPhase p seat → (p ≡ phase.Idle) ⊎ IsSome seat.transaction
+open_in_phase phase.Idle seat i = inl refl
+open_in_phase (phase.Running kind.ReadOnly) seat i = inr (is_some_from (λ (t : Transaction). (t.kind ≡ kind.ReadOnly) × (t.mark ≡ None)) seat.transaction i.transaction)
+open_in_phase (phase.Running kind.ReadWrite) seat i = inr (is_some_from (λ (t : Transaction). (t.kind ≡ kind.ReadWrite) × (t.mark ≡ None)) seat.transaction i.transaction)
+open_in_phase phase.Writing seat i = inr (is_some_from (λ (t : Transaction). (t.kind ≡ kind.ReadWrite) × (t.mark ≡ None)) seat.transaction i.transaction)
+open_in_phase phase.RollingBack seat i = inr (is_some_from (λ (t : Transaction). t.mark ≡ None) seat.transaction i.transaction)
+open_in_phase phase.Stamping seat i = inr (is_some_from (λ (t : Transaction). (t.kind ≡ kind.ReadWrite) × IsSome t.mark) seat.transaction i.transaction)
+open_in_phase phase.Condemned seat i = absurd i
+open_in_phase phase.Absent seat i = absurd i
+
+-- a story is moved out: what the record claims is less by its writes
+pub storyless_orderly : (n : ℕ) (seat : Seat) → IsOrderly n seat → IsOrderly n (on_hand without_story seat)
+storyless_orderly n seat o = record { phase = storyless seat.hand.phase seat o.phase; begun = o.begun }
+
+pub storyless_writes : (seat : Seat) → writes_of seat ≡ writes_in seat.hand.done.items + writes_of (on_hand without_story seat)
+storyless_writes seat =
+    let now : writes_of (on_hand without_story seat) ≡ 0 + cond (is_some seat.hand.work) 1 0 = refl in
+    let was : writes_of seat ≡ writes_in seat.hand.done.items + cond (is_some seat.hand.work) 1 0 = refl in
+    omega (arith, now, was)
+
+pub with_story_writes : (done : List (Op × Reply)) (seat : Seat) → seat.hand.done.items ≡ [] → writes_of (on_hand (with_story done) seat) ≡ writes_of seat + writes_in done
+with_story_writes done seat empty =
+    let was : writes_of seat ≡ 0 + cond (is_some seat.hand.work) 1 0 = ap (λ (d : List (Op × Reply)). writes_in d + cond (is_some seat.hand.work) 1 0) empty in
+    omega (arith, was)
+
+pub noted_writes : (op : Op) (reply : Reply) (seat : Seat) → written_by (op, reply) ≡ None → writes_of (on_hand (noted op reply) seat) ≡ writes_of seat
+noted_writes op reply seat none = ap (λ (w : List (ℕ × ℕ)). length w + cond (is_some seat.hand.work) 1 0) (no_write_more seat.hand.done.items (op, reply) none)
+
+-- a roll-back claims nothing for an operation in work
+pub rolls_back_claims :
+    (m : Manager) (cause : Cause) (seat : Seat) → (places_of (rolls_back m cause seat) ≡ places_of seat) × (writes_of seat ≡ writes_of (rolls_back m cause seat) + cond (is_some seat.hand.work) 1 0)
+rolls_back_claims manager.Mursiw cause seat = (refl, omega arith)
+rolls_back_claims manager.Mvcc cause seat = (refl, omega arith)
+
+pub rolls_back_begun :
+    (m : Manager) (cause : Cause) (n : ℕ) (seat : Seat) → seat.begun ≤ n + cond (is_unmarked seat) 1 0 → (rolls_back m cause seat).begun ≤ n + cond (is_unmarked (rolls_back m cause seat)) 1 0
+rolls_back_begun manager.Mursiw cause n seat le = le
+rolls_back_begun manager.Mvcc cause n seat le = le
+
+-- a connection's record with a transaction that has no mark
+pub has_unmarked : (seats : Seats) (c : ConnId) (seat : Seat) → seat_of seats c ≡ Some seat → IsUnmarked seat → HasUnmarked (seat_of seats c)
+has_unmarked seats c seat at h = subst (λ (o : Option Seat). HasUnmarked o) (sym at) h
+
+-- the mark of a transaction that is to be stamped
+pub stamping_mark : (seat : Seat) → IsStamping seat → IsSomeAnd seat.transaction (λ t. IsSome t.mark)
+stamping_mark seat s = go seat.transaction s.transaction
+  where
+    go : (o : Option Transaction) → IsSomeAnd o (λ t. (t.kind ≡ kind.ReadWrite) × IsSome t.mark) → IsSomeAnd o (λ t. IsSome t.mark)
+    go None f = absurd f
+    go (Some t) f = f.1
+
+-- a reader's transaction, and one that rolls back, are open
+pub reading_open : (seat : Seat) → IsReading seat → IsSome seat.transaction
+reading_open seat i = is_some_from (λ (t : Transaction). (t.kind ≡ kind.ReadOnly) × (t.mark ≡ None)) seat.transaction i.transaction
+
+pub rolling_open : (seat : Seat) → IsRollingBack seat → IsSome seat.transaction
+rolling_open seat i = is_some_from (λ (t : Transaction). t.mark ≡ None) seat.transaction i.transaction
+
+pub spare_left_not : (m : Manager) (spare : Record) (seat : Seat) → is_single_writer m seat ≡ false → spare_left m spare seat ≡ spare
+spare_left_not m spare seat e = ap (λ b. cond b seat.hand.undo spare) e

@@ -7,7 +7,7 @@
 //! | an entry's place | each open transaction, for its Commit, Read or Abort         | that entry is written, or it is closed unmarked |
 //! | a write's place  | each write that an open transaction did, or has in work      | its story goes to the journal, or is given up   |
 
-ghost use Rattle.std.specs.Prelude.{◌≡◌, ◌+◌, ◌<◌, OnOk, OnErr};
+ghost use Rattle.std.specs.Prelude.{◌≡◌, ◌+◌, ◌<◌, ◌≤◌, length, OnOk, OnErr};
 ghost use Rattle.rdb_transactions.specs.Claims.{writes_in, HasRoom, Covers};
 ghost use Rattle.rdb_transactions.specs.Moves.{IsSame, Enters};
 
@@ -38,7 +38,8 @@ impl Claims {
 
 /// How many of the operations wrote an object. The cost grows with them.
 pub fn writes_in(done: &[(Op, Reply)]) -> usize
-    ensures { result ≡ writes_in done.now }
+    ensures value { result ≡ writes_in done.now }
+    ensures few { result ≤ length done.now }
 {
     let mut writes = 0;
     for (op, told) in done {

@@ -1,6 +1,6 @@
 //! Connections come, are condemned, and go. It changes one record, and appends at most the entry that takes leave.
 
-ghost use Rattle.std.specs.Prelude.{◌≡◌, ◌+◌, ℕ, Some, None, Err, IfOk, OnOk, OnErr, IsSome, is_some, if◌then◌else◌};
+ghost use Rattle.std.specs.Prelude.{◌≡◌, ℕ, [], Some, None, Err, IfOk, OnOk, OnErr, IsSome};
 ghost use Rattle.rdb_base.specs.declared.identity.Phase.TheVariants as phase;
 ghost use Rattle.rdb_base.specs.declared.journal.Entry.TheVariants as entry;
 ghost use Rattle.rdb_registry.specs.declared.fault.ConnectFault.{ConnectFault};
@@ -145,6 +145,8 @@ fn leave_of(seat: &Seat, d: ConnId) -> (Entry, Claims)
 fn claims_of(seat: &Seat) -> Claims
     ensures { result ≡ record { entries = places_of seat.now; writes = writes_of seat.now } }
 {
+    // there are never so many operations that the sum wouldn't fit
+    let _operations = seat.hand.done.len();
     Claims {
         entries: places_of(seat),
         writes: writes_in(seat.hand.done.as_slice()) + writes_in_work(seat),

@@ -1,6 +1,6 @@
 //! A roll-back begins. It changes one record, and gives up what an operation in work has claimed.
 
-ghost use Rattle.std.specs.Prelude.{◌≡◌, [], is_some, if◌then◌else◌};
+ghost use Rattle.std.specs.Prelude.{◌≡◌, ◌≤◌, [], is_some, if◌then◌else◌};
 ghost use Rattle.rdb_transactions.specs.Phases.{IsUnmarked};
 ghost use Rattle.rdb_transactions.specs.Records.{rolls_back};
 ghost use Rattle.rdb_transactions.specs.Sound.{IsSound, Has};
@@ -14,7 +14,8 @@ use rdb_registry::Seat;
 
 /// How many writes a record has in work.
 pub(crate) fn writes_in_work(seat: &Seat) -> usize
-    ensures { result ≡ (if is_some seat.now.hand.work then 1 else 0) }
+    ensures value { result ≡ (if is_some seat.now.hand.work then 1 else 0) }
+    ensures few { result ≤ 1 }
 {
     if seat.hand.work.is_some() { 1 } else { 0 }
 }

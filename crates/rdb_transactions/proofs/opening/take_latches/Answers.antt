@@ -1,0 +1,13 @@
+use Rattle.std.proofs.Common.{sym, ◌∙◌, ◌≡◌}
+use Rattle.rdb_registry.specs.declared.seat.Seat.{Seat}
+use Rattle.rdb_transactions.specs.Records.{is_single_writer, latched}
+use Rattle.rdb_transactions.proofs.EditLemmas.{of_held, unedited}
+use Rattle.rdb_transactions.proofs.PhaseLemmas.{latched_not}
+use Rattle.rdb_transactions.proofs.opening.take_latches.Goals as goal
+
+pub returns-else-is_single_writers : goal.returns-else-is_single_writers
+returns-else-is_single_writers c =
+    let roll = c.args.registry.now in
+    let there = of_held roll.seats c.args.c (λ (seat : Seat). c.is_single_writers.result ≡ is_single_writer c.args.manager seat) c.is_single_writers.ensures in
+    unedited roll c.args.c there.0 (latched c.args.manager roll.classes) there.1.0
+    (latched_not c.args.manager roll.classes there.0 (sym there.1.1 ∙ c.if-is_single_writers.false))
