@@ -1,9 +1,12 @@
 -- The answers of `commit` and `roll_back`. A story is that of the record as the call begins.
-use Rattle.std.specs.Prelude.{◌≡◌, ◌≢◌, ◌+◌, ◌⊎◌, ℕ, List, [], ◌∷◌, Some}
+use Rattle.std.specs.Prelude.{◌≡◌, ◌≢◌, ◌+◌, ℕ, List, [], ◌∷◌, Some, None}
 use Rattle.rdb_base.specs.declared.identity.ConnId.{ConnId}
 use Rattle.rdb_base.specs.declared.identity.Kind.TheVariants as kind
 use Rattle.rdb_base.specs.declared.identity.Manager.{Manager}
 use Rattle.rdb_base.specs.declared.identity.Manager.TheVariants as manager
+use Rattle.rdb_base.specs.declared.identity.Phase.TheVariants as phase
+use Rattle.rdb_base.specs.declared.operation.Op.{Op}
+use Rattle.rdb_base.specs.declared.operation.Reply.{Reply}
 use Rattle.rdb_base.specs.declared.journal.Story.{Story}
 use Rattle.rdb_base.specs.declared.journal.Cause.TheVariants as cause
 use Rattle.rdb_base.specs.declared.journal.Entry.{Entry}
@@ -23,6 +26,7 @@ use Rattle.rdb_answers.specs.Callers.{IsLive, IsGone}
 use Rattle.rdb_transactions.specs.declared.transactions.Transactions.{Transactions}
 use Rattle.rdb_transactions.specs.Hands.{without_story, with_story}
 use Rattle.rdb_transactions.specs.Records.{on_hand, story_in, becomes_marked, rolls_back}
+use Rattle.rdb_transactions.specs.Sound.{Has}
 use Rattle.rdb_transactions.specs.Moves.{Moves, KeepsSpare, ExchangesSpare, ends, ends_with_story}
 
 -- whether a story may commit: where many may write, no commit above its snapshot may touch it; a single writer always may
@@ -32,7 +36,9 @@ IsChecked schema manager.Mursiw journal story checked = checked ≡ checked.Clea
 
 -- what is so of the record and the open transaction of a connection
 abbrev pub Of : Transactions → ConnId → (Seat → Transaction → Type 0) → Type 0
-Of t c P = (seat : Seat) (open_one : Transaction) → seat_of t.registry.seats c ≡ Some seat → seat.transaction ≡ Some open_one → P seat open_one
+Of t c P =
+    (seat : Seat) (open_one : Transaction) → seat_of t.registry.seats c ≡ Some seat → seat.transaction ≡ Some open_one
+    → P seat open_one
 
 -- A transaction that only read is ended: its Read stands in the journal.
 pub record EndsRead (before after : Transactions) (c : ConnId) (at : ℕ) : Type 0 where
@@ -80,6 +86,28 @@ pub record Conflicts (schema : Schema) (before after : Transactions) (c : ConnId
   pub moves : Moves before after c (conflicts before.manager commit operation) []
   pub spare : KeepsSpare before after
 
+-- the record of a running transaction whose story was moved out to be validated
+pub record IsMovedOut (seat : Seat) : Type 0 where
+  pub phase : seat.hand.phase ≡ phase.Running kind.ReadWrite
+  pub live : seat.condemned ≡ None
+  pub empty : seat.hand.done.items ≡ []
+
+-- what the answers mean where a transaction is marked with a story that was moved out of its record
+abbrev pub MarkAnswer : Transactions → Transactions → ConnId → Story → Answer → Type 0
+MarkAnswer before after c story (answer.Ready (outcome.Committed commit)) =
+    (commit ≡ commits before.journal.entries + 1) × Has before c (λ seat. seat.hand.own.items ≡ [])
+    × Moves before after c (λ seat. ends before (becomes_marked commit seat)) (entry.Commit story commit ∷ [])
+    × ExchangesSpare before after c (becomes_marked commit)
+MarkAnswer before after c story answer.More =
+    let commit = commits before.journal.entries + 1 in
+    Has before c (λ seat. seat.hand.own.items ≢ []) × Moves before after c (becomes_marked commit) (entry.Commit story commit ∷ [])
+    × KeepsSpare before after
+MarkAnswer before after c story _ = ⊥
+
+-- the record as its transaction rolls back for a conflict, with these operations put back into its story
+abbrev pub refuses : Manager → List (Op × Reply) → ℕ → ℕ → Seat → Seat
+refuses manager done commit operation seat = rolls_back manager (cause.Conflict commit operation) (on_hand (with_story done) seat)
+
 -- what each answer of `commit` means; no other comes
 abbrev pub CommitAnswer : Schema → Transactions → Transactions → ConnId → Answer → Type 0
 CommitAnswer schema before after c (answer.Ready (outcome.Ended at)) = EndsRead before after c at
@@ -89,10 +117,14 @@ CommitAnswer schema before after c (answer.Conflict commit operation) = Conflict
 CommitAnswer schema before after c (answer.Gone by at) = IsGone before after c by at
 CommitAnswer schema before after c _ = ⊥
 
+-- nothing is there to take back or to drop
+abbrev pub IsClean : Seat → Type 0
+IsClean seat = (seat.hand.undo.pairs ≡ []) × (seat.hand.own.items ≡ [])
+
 -- Nothing is there to take back or to drop: the transaction is over, and its Abort stands in the journal.
 pub record RollsBackAtOnce (before after : Transactions) (c : ConnId) : Type 0 where
   pub live : IsLive before c
-  pub clean : Of before c (λ seat t. (seat.hand.undo.pairs ≡ []) × (seat.hand.own.items ≡ []))
+  pub clean : Of before c (λ seat t. IsClean seat)
   pub moves :
       Of before c (λ seat t.
       Moves before after c (λ s. ends_with_story before (rolls_back before.manager cause.Asked s))
@@ -102,7 +134,7 @@ pub record RollsBackAtOnce (before after : Transactions) (c : ConnId) : Type 0 w
 -- Something is there to take back or to drop: the transaction rolls back.
 pub record RollsBack (before after : Transactions) (c : ConnId) : Type 0 where
   pub live : IsLive before c
-  pub unclean : Of before c (λ seat t. (seat.hand.undo.pairs ≢ []) ⊎ (seat.hand.own.items ≢ []))
+  pub unclean : Of before c (λ seat t. ¬ IsClean seat)
   pub moves : Moves before after c (rolls_back before.manager cause.Asked) []
   pub spare : KeepsSpare before after
 

@@ -1,5 +1,5 @@
 -- The answers of `watch` and `poll`.
-use Rattle.std.specs.Prelude.{◌≡◌, ℕ, [], Some, None, slice_get}
+use Rattle.std.specs.Prelude.{◌≡◌, ℕ, List, [], Some, None, IsSome, slice_get}
 use Rattle.rdb_base.specs.declared.identity.ConnId.{ConnId}
 use Rattle.rdb_base.specs.declared.identity.EventPlace.{EventPlace}
 use Rattle.rdb_schema.specs.declared.schema.Schema.{Schema}
@@ -17,6 +17,17 @@ use Rattle.rdb_transactions.specs.declared.transactions.Transactions.{Transactio
 use Rattle.rdb_transactions.specs.Hands.{watch_of, with_watch, with_watch_at}
 use Rattle.rdb_transactions.specs.Records.{on_hand}
 use Rattle.rdb_transactions.specs.Moves.{IsSame, Moves, KeepsSpare}
+
+-- the record's connection watches the event
+abbrev pub WatchesEvent : ℕ → ℕ → Seat → Type 0
+WatchesEvent class event seat = IsSome (watch_of class event seat.hand.subscriptions)
+
+-- the watch of an event has this number among those of a connection, and stands at this place
+pub record IsWatchAmong (class event : ℕ) (watches : List Subscription) (number : ℕ) (place : EventPlace) : Type 0 where
+  pub found : watch_of class event watches ≡ Some number
+  pub watch : Subscription
+  pub at : slice_get watches number ≡ Some watch
+  pub place_is : watch.place ≡ place
 
 -- the watch of a class's event behind a commit and an id
 abbrev pub watching : ℕ → ℕ → ℕ × ℕ → Subscription

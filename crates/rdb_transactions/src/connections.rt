@@ -45,8 +45,8 @@ fn places_of(seat: &Seat) -> usize
 }
 
 impl Transactions {
-    /// Connects: the lowest free slot, with a serial that was never used, and nothing in hand. It claims the place of the entry by which the
-    /// connection will go. `TooMany` comes only where every slot is held; where memory is wanting, or every slot is held, nothing has
+    /// Connects: the lowest free slot, with a serial that was never used, and nothing in hand. It claims the place of the entry by which
+    /// the connection will go. `TooMany` comes only where every slot is held; where memory is wanting, or every slot is held, nothing has
     /// changed.
     pub fn connect(&mut self) -> Result<ConnId, ConnectFault>
         requires { IsSound self.old }
@@ -78,8 +78,8 @@ impl Transactions {
         self.registry.free(c);
     }
 
-    /// Notes that a connection was condemned by another, at the journal's length. One that is condemned already, or isn't there, stays as it
-    /// is. It takes no memory.
+    /// Notes that a connection was condemned by another, at the journal's length. One that is condemned already, or isn't there, stays as
+    /// it is. It takes no memory.
     pub fn condemn(&mut self, d: ConnId, by: ConnId)
         requires { IsSound self.old }
         ensures live { Has self.old d (λ seat. seat.condemned ≡ None) → Condemns self.old self.new d by }

@@ -21,6 +21,8 @@ mod opening;
 mod records;
 mod rolling_back;
 mod stories;
+#[cfg(test)]
+mod tests;
 mod transactions;
 mod watches;
 

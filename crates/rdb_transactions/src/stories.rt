@@ -1,5 +1,5 @@
-//! The story of a transaction: an operation that wrote nothing is told, and the story is moved out to be validated, and back. It changes one
-//! record.
+//! The story of a transaction: an operation that wrote nothing is told, and the story is moved out to be validated, and back. It changes
+//! one record.
 
 ghost use Rattle.std.specs.Prelude.{◌≡◌, ◌≤◌, ℕ, OnOk, OnErr, [], Some, None, length, IsSome};
 ghost use Rattle.rdb_base.specs.declared.limits.TheConstants.{MAX_PLACES};
