@@ -123,7 +123,7 @@ hand_same roll c h h' held lent same =
     let there = some_of (seat_of roll.seats c) held in
     let own = has_seat roll.seats c (λ seat. h ≡ seat.hand) there.0 lent there.1 in
     let e : record roll { seats = with_hand roll.seats c.slot h' } ≡ edited roll c.slot (on_hand (λ x. x)) =
-        ap (λ (x : Hand). record roll { seats = with_hand roll.seats c.slot x }) same ∙ edited_hand roll c (λ x. x) h lent in
+    ap (λ (x : Hand). record roll { seats = with_hand roll.seats c.slot x }) same ∙ edited_hand roll c (λ x. x) h lent in
     e ∙ sym (unedited roll c there.0 (on_hand (λ x. x)) there.1 refl)
 
 -- the records of a registry that was edited

@@ -65,14 +65,14 @@ ends_story before moved entered after c done entry given seat at may s =
     let same_spare : entered.spare_undo ≡ before.spare_undo = s.enters.spare ∙ s.spare in
     let same_entries : moved.journal.entries ≡ before.journal.entries = s.moves_out.entries ∙ append-nil before.journal.entries in
     let entries : after.journal.entries ≡ before.journal.entries ++ entry ∷ [] =
-        ap (λ (k : Kept). k.entries) s.journal ∙ (s.enters.entries ∙ ap (λ (es : List Entry). es ++ entry ∷ []) same_entries) in
+    ap (λ (k : Kept). k.entries) s.journal ∙ (s.enters.entries ∙ ap (λ (es : List Entry). es ++ entry ∷ []) same_entries) in
     let longer : length after.journal.entries ≡ length moved.journal.entries + 1 =
-        ap (λ (k : Kept). length k.entries) s.journal ∙ (ap length s.enters.entries ∙ length_push moved.journal.entries entry) in
+    ap (λ (k : Kept). length k.entries) s.journal ∙ (ap length s.enters.entries ∙ length_push moved.journal.entries entry) in
     let as_long : length moved.journal.entries ≡ length before.journal.entries = ap length same_entries in
     let at1 : seat_of moved.registry.seats c ≡ Some seat1 = seat_edited before.registry moved.registry c (on_hand without_story) seat (λ x. refl) s.moves_out.registry at in
     let at2 : seat_of entered.registry.seats c ≡ Some seat1 = ap (λ (r : Roll). seat_of r.seats c) s.enters.registry ∙ at1 in
     let all : after.registry ≡ edited before.registry slot (λ x. closed (exchanged entered.manager entered.spare_undo (on_hand without_story x))) =
-        then_edited before.registry entered.registry after.registry slot (on_hand without_story) (ends entered) (s.enters.registry ∙ s.moves_out.registry) s.closes.registry in
+    then_edited before.registry entered.registry after.registry slot (on_hand without_story) (ends entered) (s.enters.registry ∙ s.moves_out.registry) s.closes.registry in
     let spare : after.spare_undo ≡ spare_left entered.manager entered.spare_undo seat1 = s.exchanges seat1 at2 in
     let empty : entered.spare_undo.pairs ≡ [] = ap (λ (u : Record). u.pairs) s.enters.spare ∙ s.sound.spare in
     let begun = may.begun in

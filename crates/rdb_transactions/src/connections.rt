@@ -37,9 +37,7 @@ fn places_of(seat: &Seat) -> usize
     ensures { result ≡ places_of seat.now }
 {
     match seat.transaction {
-        Some(transaction) => {
-            if transaction.mark.is_none() { 2 } else { 1 }
-        }
+        Some(transaction) => { if transaction.mark.is_none() { 2 } else { 1 } }
         None => 1,
     }
 }

@@ -60,7 +60,12 @@ fn take_latches(registry: &mut Registry, c: ConnId, manager: Manager)
 }
 
 /// Exchanges the undo record of the single writer for the spare one.
-pub(crate) fn exchange_for_writer(registry: &mut Registry, c: ConnId, manager: Manager, spare: &mut Undo)
+pub(crate) fn exchange_for_writer(
+    registry: &mut Registry,
+    c: ConnId,
+    manager: Manager,
+    spare: &mut Undo,
+)
     requires { IsHeld registry.old.seats c }
     ensures registry { registry.new ≡ edited registry.old c.slot (exchanged manager spare.old) }
     ensures spare { IsSomeAnd (seat_of registry.old.seats c) (λ seat. spare.new ≡ spare_left manager spare.old seat) }

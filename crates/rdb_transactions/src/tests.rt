@@ -29,7 +29,14 @@ fn a_reader_ends_with_what_it_was_told(rt: HostRuntime) -> Result<(), Fail> {
     let c = t.connect()?;
     assert!(rt; is_in(&t, c, Phase::Idle));
     let place = EventPlace { commit: 0, id: 0 };
-    t.add_watch(c, Subscription { class: 0, event: 1, place })?;
+    t.add_watch(
+        c,
+        Subscription {
+            class: 0,
+            event: 1,
+            place,
+        },
+    )?;
     assert!(rt; is_in(&t, c, Phase::Idle));
     t.open_transaction(c, Kind::ReadOnly)?;
     assert!(rt; is_in(&t, c, Phase::Running(Kind::ReadOnly)));

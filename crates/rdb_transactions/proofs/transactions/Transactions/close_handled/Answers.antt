@@ -63,7 +63,7 @@ returns-clause-sound c =
     let written = c.enter.ensures.writes in
     let longer : length c.enter.new.self.journal.entries ≡ length before.journal.entries + 1 = ap length c.enter.ensures.entries ∙ length_push before.journal.entries _ in
     let freed = freed_edited before.registry c.enter.new.self.registry c.free.new.self c.args.d.slot (exchanged before.manager before.spare_undo)
-        (c.enter.ensures.registry ∙ c.exchange_for_writer.ensures.registry) c.free.ensures in
+    (c.enter.ensures.registry ∙ c.exchange_for_writer.ensures.registry) c.free.ensures in
     let left = has_seat before.registry.seats c.args.d (λ (s : Seat). c.exchange_for_writer.new.spare ≡ spare_left before.manager before.spare_undo s) seat c.exchange_for_writer.ensures.spare c.seat.ensures in
     let undo = has_seat before.registry.seats c.args.d (λ (s : Seat). s.hand.undo.pairs ≡ []) seat c.requires.logged c.seat.ensures in
     sound_set [] [] before _ c.args.d.slot (Some seat) None c.requires.sound

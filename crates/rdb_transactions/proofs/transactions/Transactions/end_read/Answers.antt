@@ -57,17 +57,24 @@ returns-clause-moves c seat t at opened =
     let one = one_open there.0 true unmarked in
     let begun = o.begun in
     let may : MayEnd (length before.journal.entries) there.0 = record {
-      unmarked = unmarked; work = is.rest.work;
+      unmarked = unmarked;
+      work = is.rest.work;
       plan = is.rest.plan;
       undo = is.rest.undo;
       begun = omega (arith, one, begun);
     } in
     let ended = ends_story before c.story_of-story.new.self c.enter.new.self c.close_transaction.new.self c.args.c c.story_of-story.result.done (entry.Read c.story_of-story.result) c.claimed_by-given.result there.0 there.1.0 may
-        (record {
-          sound = c.story_of-story.ensures.sound; moves_out = c.story_of-story.ensures.moves; spare = c.story_of-story.ensures.spare;
-          enters = c.enter.ensures; given_is = c.claimed_by-given.ensures; closes = c.close_transaction.ensures.moves; exchanges = c.close_transaction.ensures.spare;
-          journal = c.close_transaction.ensures.journal; claims = c.close_transaction.ensures.claims;
-        }) in
+    (record {
+      sound = c.story_of-story.ensures.sound;
+      moves_out = c.story_of-story.ensures.moves;
+      spare = c.story_of-story.ensures.spare;
+      enters = c.enter.ensures;
+      given_is = c.claimed_by-given.ensures;
+      closes = c.close_transaction.ensures.moves;
+      exchanges = c.close_transaction.ensures.spare;
+      journal = c.close_transaction.ensures.journal;
+      claims = c.close_transaction.ensures.claims;
+    }) in
     subst (λ (s : Story). Moves before c.close_transaction.new.self c.args.c (ends_with_story before) (entry.Read s ∷ [])) (c.story_of-story.ensures.story seat t at opened) ended.moves
 
 pub returns-clause-snapshot : goal.returns-clause-snapshot
@@ -92,17 +99,24 @@ returns-clause-spare c =
     let one = one_open there.0 true unmarked in
     let begun = o.begun in
     let may : MayEnd (length before.journal.entries) there.0 = record {
-      unmarked = unmarked; work = is.rest.work;
+      unmarked = unmarked;
+      work = is.rest.work;
       plan = is.rest.plan;
       undo = is.rest.undo;
       begun = omega (arith, one, begun);
     } in
     let ended = ends_story before c.story_of-story.new.self c.enter.new.self c.close_transaction.new.self c.args.c c.story_of-story.result.done (entry.Read c.story_of-story.result) c.claimed_by-given.result there.0 there.1.0 may
-        (record {
-          sound = c.story_of-story.ensures.sound; moves_out = c.story_of-story.ensures.moves; spare = c.story_of-story.ensures.spare;
-          enters = c.enter.ensures; given_is = c.claimed_by-given.ensures; closes = c.close_transaction.ensures.moves; exchanges = c.close_transaction.ensures.spare;
-          journal = c.close_transaction.ensures.journal; claims = c.close_transaction.ensures.claims;
-        }) in
+    (record {
+      sound = c.story_of-story.ensures.sound;
+      moves_out = c.story_of-story.ensures.moves;
+      spare = c.story_of-story.ensures.spare;
+      enters = c.enter.ensures;
+      given_is = c.claimed_by-given.ensures;
+      closes = c.close_transaction.ensures.moves;
+      exchanges = c.close_transaction.ensures.spare;
+      journal = c.close_transaction.ensures.journal;
+      claims = c.close_transaction.ensures.claims;
+    }) in
     ended.spare ∙ spare_left_not before.manager before.spare_undo there.0 (reader_not_single before.manager there.0 is.transaction)
 
 pub returns-clause-sound : goal.returns-clause-sound
@@ -115,15 +129,22 @@ returns-clause-sound c =
     let one = one_open there.0 true unmarked in
     let begun = o.begun in
     let may : MayEnd (length before.journal.entries) there.0 = record {
-      unmarked = unmarked; work = is.rest.work;
+      unmarked = unmarked;
+      work = is.rest.work;
       plan = is.rest.plan;
       undo = is.rest.undo;
       begun = omega (arith, one, begun);
     } in
     let ended = ends_story before c.story_of-story.new.self c.enter.new.self c.close_transaction.new.self c.args.c c.story_of-story.result.done (entry.Read c.story_of-story.result) c.claimed_by-given.result there.0 there.1.0 may
-        (record {
-          sound = c.story_of-story.ensures.sound; moves_out = c.story_of-story.ensures.moves; spare = c.story_of-story.ensures.spare;
-          enters = c.enter.ensures; given_is = c.claimed_by-given.ensures; closes = c.close_transaction.ensures.moves; exchanges = c.close_transaction.ensures.spare;
-          journal = c.close_transaction.ensures.journal; claims = c.close_transaction.ensures.claims;
-        }) in
+    (record {
+      sound = c.story_of-story.ensures.sound;
+      moves_out = c.story_of-story.ensures.moves;
+      spare = c.story_of-story.ensures.spare;
+      enters = c.enter.ensures;
+      given_is = c.claimed_by-given.ensures;
+      closes = c.close_transaction.ensures.moves;
+      exchanges = c.close_transaction.ensures.spare;
+      journal = c.close_transaction.ensures.journal;
+      claims = c.close_transaction.ensures.claims;
+    }) in
     ended.sound

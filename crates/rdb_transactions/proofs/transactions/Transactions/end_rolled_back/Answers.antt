@@ -65,17 +65,24 @@ returns-clause-moves c seat t cause at opened why =
     let one = one_open there.0 true unmarked in
     let begun = o.begun in
     let may : MayEnd (length before.journal.entries) there.0 = record {
-      unmarked = unmarked; work = is.work;
+      unmarked = unmarked;
+      work = is.work;
       plan = has_seat before.registry.seats c.args.c (λ (s : Seat). s.hand.plan.pairs ≡ []) there.0 c.requires.planned there.1.0;
       undo = has_seat before.registry.seats c.args.c (λ (s : Seat). s.hand.undo.pairs ≡ []) there.0 c.requires.logged there.1.0;
       begun = omega (arith, one, begun);
     } in
     let ended = ends_story before c.story_of-story.new.self c.enter.new.self c.close_transaction.new.self c.args.c c.story_of-story.result.done (entry.Abort c.story_of-story.result c.cause_in-cause.result) c.claimed_by-given.result there.0 there.1.0 may
-        (record {
-          sound = c.story_of-story.ensures.sound; moves_out = c.story_of-story.ensures.moves; spare = c.story_of-story.ensures.spare;
-          enters = c.enter.ensures; given_is = c.claimed_by-given.ensures; closes = c.close_transaction.ensures.moves; exchanges = c.close_transaction.ensures.spare;
-          journal = c.close_transaction.ensures.journal; claims = c.close_transaction.ensures.claims;
-        }) in
+    (record {
+      sound = c.story_of-story.ensures.sound;
+      moves_out = c.story_of-story.ensures.moves;
+      spare = c.story_of-story.ensures.spare;
+      enters = c.enter.ensures;
+      given_is = c.claimed_by-given.ensures;
+      closes = c.close_transaction.ensures.moves;
+      exchanges = c.close_transaction.ensures.spare;
+      journal = c.close_transaction.ensures.journal;
+      claims = c.close_transaction.ensures.claims;
+    }) in
     let own : there.0 ≡ seat = same_seat before.registry.seats c.args.c there.0 seat there.1.0 at in
     let found : c.seat.result.now ≡ seat = same_seat before.registry.seats c.args.c c.seat.result.now seat c.seat.ensures at in
     let two : Some c.cause_in-cause.result ≡ Some cause = sym c.cause_in-cause.ensures ∙ (ap (λ (s : Seat). s.hand.cause) found ∙ why) in
@@ -93,17 +100,24 @@ returns-clause-spare c seat at =
     let one = one_open there.0 true unmarked in
     let begun = o.begun in
     let may : MayEnd (length before.journal.entries) there.0 = record {
-      unmarked = unmarked; work = is.work;
+      unmarked = unmarked;
+      work = is.work;
       plan = has_seat before.registry.seats c.args.c (λ (s : Seat). s.hand.plan.pairs ≡ []) there.0 c.requires.planned there.1.0;
       undo = has_seat before.registry.seats c.args.c (λ (s : Seat). s.hand.undo.pairs ≡ []) there.0 c.requires.logged there.1.0;
       begun = omega (arith, one, begun);
     } in
     let ended = ends_story before c.story_of-story.new.self c.enter.new.self c.close_transaction.new.self c.args.c c.story_of-story.result.done (entry.Abort c.story_of-story.result c.cause_in-cause.result) c.claimed_by-given.result there.0 there.1.0 may
-        (record {
-          sound = c.story_of-story.ensures.sound; moves_out = c.story_of-story.ensures.moves; spare = c.story_of-story.ensures.spare;
-          enters = c.enter.ensures; given_is = c.claimed_by-given.ensures; closes = c.close_transaction.ensures.moves; exchanges = c.close_transaction.ensures.spare;
-          journal = c.close_transaction.ensures.journal; claims = c.close_transaction.ensures.claims;
-        }) in
+    (record {
+      sound = c.story_of-story.ensures.sound;
+      moves_out = c.story_of-story.ensures.moves;
+      spare = c.story_of-story.ensures.spare;
+      enters = c.enter.ensures;
+      given_is = c.claimed_by-given.ensures;
+      closes = c.close_transaction.ensures.moves;
+      exchanges = c.close_transaction.ensures.spare;
+      journal = c.close_transaction.ensures.journal;
+      claims = c.close_transaction.ensures.claims;
+    }) in
     subst (λ (s : Seat). c.close_transaction.new.self.spare_undo ≡ spare_left before.manager before.spare_undo s) (same_seat before.registry.seats c.args.c there.0 seat there.1.0 at) ended.spare
 
 pub returns-clause-sound : goal.returns-clause-sound
@@ -116,15 +130,22 @@ returns-clause-sound c =
     let one = one_open there.0 true unmarked in
     let begun = o.begun in
     let may : MayEnd (length before.journal.entries) there.0 = record {
-      unmarked = unmarked; work = is.work;
+      unmarked = unmarked;
+      work = is.work;
       plan = has_seat before.registry.seats c.args.c (λ (s : Seat). s.hand.plan.pairs ≡ []) there.0 c.requires.planned there.1.0;
       undo = has_seat before.registry.seats c.args.c (λ (s : Seat). s.hand.undo.pairs ≡ []) there.0 c.requires.logged there.1.0;
       begun = omega (arith, one, begun);
     } in
     let ended = ends_story before c.story_of-story.new.self c.enter.new.self c.close_transaction.new.self c.args.c c.story_of-story.result.done (entry.Abort c.story_of-story.result c.cause_in-cause.result) c.claimed_by-given.result there.0 there.1.0 may
-        (record {
-          sound = c.story_of-story.ensures.sound; moves_out = c.story_of-story.ensures.moves; spare = c.story_of-story.ensures.spare;
-          enters = c.enter.ensures; given_is = c.claimed_by-given.ensures; closes = c.close_transaction.ensures.moves; exchanges = c.close_transaction.ensures.spare;
-          journal = c.close_transaction.ensures.journal; claims = c.close_transaction.ensures.claims;
-        }) in
+    (record {
+      sound = c.story_of-story.ensures.sound;
+      moves_out = c.story_of-story.ensures.moves;
+      spare = c.story_of-story.ensures.spare;
+      enters = c.enter.ensures;
+      given_is = c.claimed_by-given.ensures;
+      closes = c.close_transaction.ensures.moves;
+      exchanges = c.close_transaction.ensures.spare;
+      journal = c.close_transaction.ensures.journal;
+      claims = c.close_transaction.ensures.claims;
+    }) in
     ended.sound

@@ -29,10 +29,10 @@ pub returns-clause-spare : goal.returns-clause-spare
 returns-clause-spare c seat at =
     let before = c.args.self.now in
     let three =
-        opens_three before.registry c.begin.new.self c.enter_phase.new.registry c.take_latches.new.registry c.args.c.slot before.manager c.args.kind
-        c.len-begun.result c.commits-snapshot.result (length before.journal.entries) (commits before.journal.entries) c.len-begun.ensures c.commits-snapshot.ensures
-        c.begin.ensures c.enter_phase.ensures c.take_latches.ensures in
+    opens_three before.registry c.begin.new.self c.enter_phase.new.registry c.take_latches.new.registry c.args.c.slot before.manager c.args.kind
+    c.len-begun.result c.commits-snapshot.result (length before.journal.entries) (commits before.journal.entries) c.len-begun.ensures c.commits-snapshot.ensures
+    c.begin.ensures c.enter_phase.ensures c.take_latches.ensures in
     let own = seat_edited before.registry c.take_latches.new.registry c.args.c (opens before c.args.kind) seat
-        (λ s. latched_conn before.manager before.registry.classes (opened c.args.kind (length before.journal.entries) (commits before.journal.entries) s)) three at in
+    (λ s. latched_conn before.manager before.registry.classes (opened c.args.kind (length before.journal.entries) (commits before.journal.entries) s)) three at in
     has_seat c.take_latches.new.registry.seats c.args.c (λ (s : Seat). c.exchange_for_writer.new.spare ≡ spare_left before.manager before.spare_undo s)
     (opens before c.args.kind seat) c.exchange_for_writer.ensures.spare own

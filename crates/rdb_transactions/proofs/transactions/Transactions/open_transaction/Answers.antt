@@ -58,11 +58,11 @@ returns-clause-sound c =
     let now = claiming.now in
     let writes = claiming.writes in
     let same : length after.journal.entries ≡ length before.journal.entries =
-        ap (λ (k : Kept). length k.entries) c.open_record.ensures.journal ∙ ap length c.claim_entry.ensures.same.entries in
+    ap (λ (k : Kept). length k.entries) c.open_record.ensures.journal ∙ ap length c.claim_entry.ensures.same.entries in
     let claims : after.claims.entries ≡ before.claims.entries + 1 =
-        ap (λ (x : Claims). x.entries) c.open_record.ensures.claims ∙ ap (λ (x : Claims). x.entries) c.in_ok-claim_entry.ensures.ok in
+    ap (λ (x : Claims). x.entries) c.open_record.ensures.claims ∙ ap (λ (x : Claims). x.entries) c.in_ok-claim_entry.ensures.ok in
     let written : after.claims.writes ≡ before.claims.writes =
-        ap (λ (x : Claims). x.writes) c.open_record.ensures.claims ∙ ap (λ (x : Claims). x.writes) c.in_ok-claim_entry.ensures.ok in
+    ap (λ (x : Claims). x.writes) c.open_record.ensures.claims ∙ ap (λ (x : Claims). x.writes) c.in_ok-claim_entry.ensures.ok in
     sound_edit [] [] before after c.args.c there.0 change c.requires.sound there.1.0
     (seats_edited claimed.registry after.registry c.args.c.slot change c.open_record.ensures.moves.registry
     ∙ ap (λ (r : Roll). changed r.seats c.args.c.slot change) c.claim_entry.ensures.same.registry)
