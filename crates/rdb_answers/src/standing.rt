@@ -1,8 +1,8 @@
 //! How a connection stands. It changes nothing.
 
-ghost use Rattle.std.specs.Prelude.{◌≡◌};
+ghost use Rattle.std.specs.Prelude.{◌≡◌, IfSome};
 ghost use Rattle.rdb_registry.specs.Seats.{seat_of};
-ghost use Rattle.rdb_answers.specs.Standings.{phase_of, standing_of, phase_in, watches};
+ghost use Rattle.rdb_answers.specs.Standings.{phase_of, standing_of, standing_in, phase_in, watches, HasFewOperations};
 
 use crate::answer::Standing;
 use rdb_base::identity::{ConnId, Phase};
@@ -29,8 +29,10 @@ fn phase_in(seat: &Seat) -> Phase
     }
 }
 
-/// How a connection stands, and whether it watches an event, given by its class and its number there.
+/// How a connection stands, whose story has no more operations than a transaction may have, and whether it watches an event, given by its
+/// class and its number there. The cost grows with the watches of the connection.
 pub fn standing(t: &Transactions, c: ConnId, event: Option<(u32, u32)>) -> Standing
+    requires { IfSome (seat_of t.now.registry.seats c) HasFewOperations }
     ensures { result ≡ standing_of event (seat_of t.now.registry.seats c) }
 {
     match t.registry.seat(c) {
@@ -40,12 +42,20 @@ pub fn standing(t: &Transactions, c: ConnId, event: Option<(u32, u32)>) -> Stand
             cause: None,
             watched: false,
         },
-        Some(seat) => Standing {
-            phase: phase_in(seat),
-            operations: seat.hand.done.len() as u32,
-            cause: seat.hand.cause,
-            watched: watches(seat, event),
-        },
+        Some(seat) => standing_in(seat, event),
+    }
+}
+
+// How the connection of a record stands.
+fn standing_in(seat: &Seat, event: Option<(u32, u32)>) -> Standing
+    requires { HasFewOperations seat.now }
+    ensures { result ≡ standing_in event seat.now }
+{
+    Standing {
+        phase: phase_in(seat),
+        operations: seat.hand.done.len() as u32,
+        cause: seat.hand.cause,
+        watched: watches(seat, event),
     }
 }
 
