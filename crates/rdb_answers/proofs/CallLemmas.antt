@@ -1,5 +1,6 @@
 -- What is so of a connection's record, and moves one after the other.
 use Rattle.std.proofs.Common.{◌≡◌, ◌≢◌, ◌++◌, ◌&&◌, ◌||◌, ◌==◌, ◌⊎◌, ℕ, Bool, true, false, not, List, [], Option, Some, None, IsSome, IsSomeAnd, option_map, refl, sym, ap, subst, ◌∙◌, inl, inr, absurd, append_assoc}
+use Rattle.std.specs.Bool.{OnTrue, OnFalse}
 use Rattle.std.specs.Option.{option_map_or}
 use Rattle.std.proofs.Common.{ne_eqb}
 use Rattle.std.proofs.lemmas.List.{append-nil}
@@ -7,6 +8,10 @@ use Rattle.rdb_base.specs.declared.identity.ConnId.{ConnId}
 use Rattle.rdb_base.specs.declared.identity.Kind.{Kind}
 use Rattle.rdb_base.specs.declared.identity.Kind.TheVariants as kind
 use Rattle.rdb_base.specs.declared.identity.Manager.{Manager}
+use Rattle.rdb_base.specs.declared.identity.Manager.TheVariants as manager
+use Rattle.rdb_base.specs.declared.journal.Cause.{Cause}
+use Rattle.rdb_base.specs.declared.operation.Op.{Op}
+use Rattle.rdb_base.specs.declared.operation.Reply.{Reply}
 use Rattle.rdb_base.specs.declared.identity.Phase.TheVariants as phase
 use Rattle.rdb_base.specs.declared.journal.Entry.{Entry}
 use Rattle.rdb_mursiw.specs.Admission.{bars, bars_in, is_same, keeps_out}
@@ -14,13 +19,15 @@ use Rattle.rdb_registry.specs.declared.seat.Seat.{Seat}
 use Rattle.rdb_registry.specs.declared.seat.Transaction.{Transaction}
 use Rattle.rdb_registry.specs.Registry.{Roll, IsRoll}
 use Rattle.rdb_registry.specs.Seats.{Seats, seat_in, seat_of}
-use Rattle.rdb_answers.specs.Callers.{IsFree}
+use Rattle.rdb_answers.specs.Callers.{IsFree, Runs}
 use Rattle.rdb_transactions.specs.declared.transactions.Transactions.{Transactions}
-use Rattle.rdb_transactions.specs.Records.{edited}
-use Rattle.rdb_transactions.specs.Sound.{IsSound, FindsNoLatch}
+use Rattle.rdb_transactions.specs.Phases.{IsUnmarked, IsInPhase}
+use Rattle.rdb_transactions.specs.Records.{edited, rolls_back, story_in}
+use Rattle.rdb_transactions.specs.Sound.{IsSound, IsSoundBut, FindsNoLatch}
 use Rattle.rdb_transactions.specs.Moves.{Moves}
 use Rattle.rdb_transactions.proofs.EditLemmas.{of_held, has_from, seat_edited, then_edited}
-use Rattle.rdb_transactions.proofs.PhaseLemmas.{open_in_phase, in_its_phase}
+use Rattle.rdb_transactions.proofs.PhaseLemmas.{open_in_phase, in_its_phase, unmarked_kind}
+use Rattle.rdb_transactions.proofs.SoundLemmas.{orderly_of}
 
 -- a weaker property
 pub has_map : (seats : Seats) (c : ConnId) (P Q : Seat → Type 0) → ((s : Seat) → P s → Q s) → IsSomeAnd (seat_of seats c) P → IsSomeAnd (seat_of seats c) Q
@@ -75,3 +82,42 @@ finds_no_latch t c k s roll free single writes slot seat ne there =
       | inl idle ↦ (in_its_phase _ seat phase.Idle o idle).rest.latches
       | inr opened ↦ let some : IsSome None = subst (λ (x : Option Transaction). IsSome x) none opened in absurd cc
     ]
+
+-- what a roll-back leaves of a record as it begins
+pub rolls_plan : (m : Manager) (why : Cause) (seat : Seat) → (rolls_back m why seat).hand.plan.pairs ≡ []
+rolls_plan manager.Mursiw why seat = refl
+rolls_plan manager.Mvcc why seat = refl
+
+pub rolls_undo : (m : Manager) (why : Cause) (seat : Seat) → (rolls_back m why seat).hand.undo.pairs ≡ seat.hand.undo.pairs
+rolls_undo manager.Mursiw why seat = refl
+rolls_undo manager.Mvcc why seat = refl
+
+pub rolls_conn : (m : Manager) (why : Cause) (seat : Seat) → (rolls_back m why seat).conn ≡ seat.conn
+rolls_conn manager.Mursiw why seat = refl
+rolls_conn manager.Mvcc why seat = refl
+
+pub rolls_transaction : (m : Manager) (why : Cause) (seat : Seat) → (rolls_back m why seat).transaction ≡ seat.transaction
+rolls_transaction manager.Mursiw why seat = refl
+rolls_transaction manager.Mvcc why seat = refl
+
+pub rolls_story : (m : Manager) (why : Cause) (c : ConnId) (t : Transaction) (seat : Seat) → story_in c t (rolls_back m why seat).hand ≡ story_in c t seat.hand
+rolls_story manager.Mursiw why c t seat = refl
+rolls_story manager.Mvcc why c t seat = refl
+
+-- from a test
+pub on_true : {P : Type 0} (b : Bool) → b ≡ true → OnTrue b P → P
+on_true {P} b e h = subst (λ (x : Bool). OnTrue x P) e h
+
+pub on_false : {P : Type 0} (b : Bool) → b ≡ false → OnFalse b P → P
+on_false {P} b e h = subst (λ (x : Bool). OnFalse x P) e h
+
+-- a running transaction has no mark
+pub running_unmarked : (t : Transactions) (c : ConnId) (away : List (Op × Reply)) → IsSoundBut away t → IsSomeAnd (seat_of t.registry.seats c) Runs → IsSomeAnd (seat_of t.registry.seats c) IsUnmarked
+running_unmarked t c away s h =
+    let there = of_held t.registry.seats c Runs h in
+    has_from t.registry.seats c IsUnmarked there.0 there.1.0
+    (unmarked there.1.1.0 there.0 (in_its_phase _ there.0 (phase.Running there.1.1.0) (orderly_of away t c there.0 s there.1.0) there.1.1.1))
+  where
+    unmarked : (k : Kind) (seat : Seat) → IsInPhase (phase.Running k) seat → IsUnmarked seat
+    unmarked kind.ReadOnly seat i = unmarked_kind seat kind.ReadOnly i.transaction
+    unmarked kind.ReadWrite seat i = unmarked_kind seat kind.ReadWrite i.transaction

@@ -6,19 +6,21 @@
 //! |------------|--------------------------------------------------------|
 //! | `answer`   | the answers                                            |
 //! | `sessions` | `begin`, `disconnect`, `condemn`                       |
-//! | `commit`   | `commit`, `roll_back`                                  |
-//! | `watch`    | `watch`, `poll`                                        |
-//! | `standing` | `phase`, `standing`, which change nothing              |
+//! | `closing`  | `commit`, `roll_back`                                  |
+//! | `events`   | `watch`, `poll`                                        |
+//! | `looks`    | `phase`, `standing`, which change nothing              |
 #![tactic(auto)]
 
 mod answer;
-mod commit;
+mod closing;
+mod events;
+mod looks;
 mod sessions;
-mod standing;
-mod watch;
+#[cfg(test)]
+mod tests;
 
 pub use answer::{Answer, Outcome, Standing, Tended};
-pub use commit::{commit, roll_back};
+pub use closing::{commit, roll_back};
+pub use events::{poll, watch};
+pub use looks::{phase, standing};
 pub use sessions::{begin, condemn, disconnect};
-pub use standing::{phase, standing};
-pub use watch::{poll, watch};
