@@ -2,7 +2,9 @@
 use Rattle.std.proofs.Common.{◌≡◌, ◌≢◌, ◌+◌, ◌++◌, ◌∷◌, ℕ, List, [], Option, Some, None, IsSome, IsSomeAnd, refl, sym, ap, subst, ◌∙◌, absurd}
 use Rattle.std.proofs.lemmas.List.{append-nil}
 use Rattle.rdb_base.specs.declared.identity.ConnId.{ConnId}
+use Rattle.rdb_base.specs.declared.identity.Kind.{Kind}
 use Rattle.rdb_base.specs.declared.identity.Kind.TheVariants as kind
+use Rattle.rdb_base.specs.declared.identity.Phase.TheVariants as phase
 use Rattle.rdb_base.specs.declared.identity.Manager.{Manager}
 use Rattle.rdb_base.specs.declared.identity.Manager.TheVariants as manager
 use Rattle.rdb_base.specs.declared.journal.Cause.TheVariants as cause
@@ -17,20 +19,25 @@ use Rattle.rdb_mvcc.specs.declared.validation.Checked.{Checked}
 use Rattle.rdb_mvcc.specs.declared.validation.Checked.TheVariants as checked
 use Rattle.rdb_registry.specs.declared.seat.Seat.{Seat}
 use Rattle.rdb_registry.specs.declared.seat.Transaction.{Transaction}
-use Rattle.rdb_registry.specs.Registry.{Roll}
-use Rattle.rdb_registry.specs.Seats.{Seats, seat_of}
+use Rattle.rdb_registry.specs.Registry.{IsRoll}
+use Rattle.rdb_registry.specs.Seats.{Seats, seat_of, condemned_in}
+use Rattle.rdb_registry.proofs.SlotLemmas.{some_of, is_some_from}
 use Rattle.rdb_schema.specs.declared.schema.Schema.{Schema}
 use Rattle.rdb_answers.specs.declared.answer.Answer.{Answer}
 use Rattle.rdb_answers.specs.declared.answer.Answer.TheVariants as answer
 use Rattle.rdb_answers.specs.declared.answer.Outcome.TheVariants as outcome
 use Rattle.rdb_answers.specs.Callers.{IsLive}
-use Rattle.rdb_answers.specs.Ends.{Of, MarkAnswer, CommitAnswer, IsChecked, Marks, marks, conflicts, refuses}
-use Rattle.rdb_answers.proofs.CallLemmas.{moves_then, moves_two, has_back}
+use Rattle.rdb_answers.specs.Ends.{Of, IsMovedOut, MarkAnswer, CommitAnswer, IsChecked, Marks, marks, conflicts, refuses}
+use Rattle.rdb_answers.proofs.CallLemmas.{moves_two, has_back}
 use Rattle.rdb_transactions.specs.declared.transactions.Transactions.{Transactions}
 use Rattle.rdb_transactions.specs.Hands.{without_story, with_story}
 use Rattle.rdb_transactions.specs.Records.{on_hand, edited, exchanged, closed, spare_left, story_in, becomes_marked, rolls_back}
-use Rattle.rdb_transactions.specs.Moves.{Moves, KeepsSpare, ExchangesSpare, ends}
-use Rattle.rdb_transactions.proofs.EditLemmas.{seat_edited, has_seat, alike, stands}
+use Rattle.rdb_transactions.specs.Phases.{IsRunning}
+use Rattle.rdb_transactions.specs.Sound.{IsSound}
+use Rattle.rdb_transactions.specs.Moves.{Moves, KeepsSpare, ends}
+use Rattle.rdb_transactions.proofs.EditLemmas.{of_held, is_held, has_from, has_seat, seat_edited, alike, stands}
+use Rattle.rdb_transactions.proofs.PhaseLemmas.{in_its_phase}
+use Rattle.rdb_transactions.proofs.SoundLemmas.{orderly_of}
 
 -- an ending by the manager and the spare record that were there before
 pub ends_alike :
@@ -133,3 +140,59 @@ refuses_alike before moved after c seat done commit operation at is same m =
           (stands before.registry.seats c seat at).there at_seat);
       entries = m.entries;
     }
+
+-- the record of a connection that wasn't condemned says so
+pub live_seat : (t : Transactions) (c : ConnId) (seat : Seat) → IsRoll t.registry → IsLive t c → seat_of t.registry.seats c ≡ Some seat → seat.condemned ≡ None
+live_seat t c seat roll live at =
+    let there = stands t.registry.seats c seat at in
+    (roll.seated c.slot seat there.there).condemned ∙ (ap (condemned_in t.registry.condemned) there.conn ∙ live)
+
+-- a running transaction that may write
+running_writes : (t : Transactions) (c : ConnId) (seat : Seat) → IsSound t → IsSomeAnd (seat_of t.registry.seats c) (λ s. s.hand.phase ≡ phase.Running kind.ReadWrite) → seat_of t.registry.seats c ≡ Some seat → IsRunning seat
+running_writes t c seat s h at =
+    in_its_phase _ seat (phase.Running kind.ReadWrite) (orderly_of [] t c seat s at) (has_seat t.registry.seats c (λ (x : Seat). x.hand.phase ≡ phase.Running kind.ReadWrite) seat h at)
+
+kind_of : (k : Kind) (o : Option Transaction) (t : Transaction) → IsSomeAnd o (λ x. (x.kind ≡ k) × (x.mark ≡ None)) → o ≡ Some t → t.kind ≡ k
+kind_of k o t h e = let there = subst (λ (p : Option Transaction). IsSomeAnd p (λ x. (x.kind ≡ k) × (x.mark ≡ None))) e h in there.0
+
+-- what is known once a story was moved out of the record of a running writer
+pub moved_is :
+    (before moved : Transactions) (c : ConnId) (story : Story) → IsSound before → IsLive before c
+    → IsSomeAnd (seat_of before.registry.seats c) (λ s. s.hand.phase ≡ phase.Running kind.ReadWrite)
+    → ((seat : Seat) (t : Transaction) → seat_of before.registry.seats c ≡ Some seat → seat.transaction ≡ Some t → story ≡ story_in c t seat.hand)
+    → Moves before moved c (on_hand without_story) [] → KeepsSpare before moved → Moved before moved c story
+moved_is before moved c story s live h told moves spare = record {
+  live = live;
+  held = is_held before.registry.seats c (λ (x : Seat). x.hand.phase ≡ phase.Running kind.ReadWrite) h;
+  writes = λ seat t at opened. kind_of kind.ReadWrite seat.transaction t (running_writes before c seat s h at).transaction opened;
+  story_is = told;
+  moves = moves;
+  spare = spare;
+}
+
+-- its record then
+pub moved_out :
+    (before moved : Transactions) (c : ConnId) → IsRoll before.registry → IsLive before c
+    → IsSomeAnd (seat_of before.registry.seats c) (λ s. s.hand.phase ≡ phase.Running kind.ReadWrite)
+    → Moves before moved c (on_hand without_story) [] → IsSomeAnd (seat_of moved.registry.seats c) IsMovedOut
+moved_out before moved c roll live h moves =
+    let there = of_held before.registry.seats c (λ (x : Seat). x.hand.phase ≡ phase.Running kind.ReadWrite) h in
+    has_from moved.registry.seats c IsMovedOut (on_hand without_story there.0)
+    (seat_edited before.registry moved.registry c (on_hand without_story) there.0 (λ s. refl) moves.registry there.1.0)
+    (record { phase = there.1.1; live = live_seat before c there.0 roll live there.1.0; empty = refl })
+
+-- its transaction is open
+pub running_open : (t : Transactions) (c : ConnId) → IsSound t → IsSomeAnd (seat_of t.registry.seats c) (λ s. s.hand.phase ≡ phase.Running kind.ReadWrite) → IsSomeAnd (seat_of t.registry.seats c) (λ s. IsSome s.transaction)
+running_open t c s h =
+    let there = of_held t.registry.seats c (λ (x : Seat). x.hand.phase ≡ phase.Running kind.ReadWrite) h in
+    has_from t.registry.seats c (λ (x : Seat). IsSome x.transaction) there.0 there.1.0
+    (is_some_from (λ (x : Transaction). (x.kind ≡ kind.ReadWrite) × (x.mark ≡ None)) there.0.transaction (running_writes t c there.0 s h there.1.0).transaction)
+
+-- the operations of a story are those of the record that it was moved out of
+pub story_done :
+    (t : Transactions) (c : ConnId) (story : Story) (seat : Seat) → IsSome seat.transaction
+    → ((s : Seat) (x : Transaction) → seat_of t.registry.seats c ≡ Some s → s.transaction ≡ Some x → story ≡ story_in c x s.hand)
+    → seat_of t.registry.seats c ≡ Some seat → story.done ≡ seat.hand.done.items
+story_done t c story seat opened told at =
+    let x = some_of seat.transaction opened in
+    ap (λ (s : Story). s.done) (told seat x.0 at x.1)

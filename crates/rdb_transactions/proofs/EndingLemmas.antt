@@ -1,5 +1,5 @@
 -- A transaction ends: its story is moved out of its record, an entry is appended, and the record is closed.
-use Rattle.std.proofs.Common.{◌≡◌, ◌+◌, ◌≤◌, ◌++◌, ◌∷◌, ℕ, Bool, true, false, cond, List, [], length, None, Some, IsSome, IsSomeAnd, refl, sym, ap, subst, ◌∙◌, arith}
+use Rattle.std.proofs.Common.{◌≡◌, ◌+◌, ◌≤◌, ◌++◌, ◌∷◌, ℕ, true, List, [], length, None, Some, refl, sym, ap, subst, ◌∙◌, arith}
 use Rattle.std.proofs.lemmas.List.{append-nil, length_push}
 use Rattle.rdb_base.specs.declared.identity.ConnId.{ConnId}
 use Rattle.rdb_base.specs.declared.identity.Manager.{Manager}

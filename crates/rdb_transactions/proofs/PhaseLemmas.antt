@@ -25,7 +25,7 @@ use Rattle.rdb_registry.specs.Seats.{with_condemned, marked, may_write, with_lat
 use Rattle.rdb_registry.proofs.SlotLemmas.{one_if, some_and_of, some_of, is_some_from}
 use Rattle.rdb_transactions.specs.Claims.{places_of, writes_of, writes_in, is_unmarked}
 use Rattle.rdb_transactions.specs.Hands.{without_story, with_story, noted, with_undo}
-use Rattle.rdb_transactions.specs.Phases.{IsAtRest, IsUnmarked, IsIdle, IsReading, IsRunning, IsWriting, IsRollingBack, IsStamping, IsInPhase}
+use Rattle.rdb_transactions.specs.Phases.{IsUnmarked, IsIdle, IsReading, IsRunning, IsRollingBack, IsStamping, IsInPhase}
 use Rattle.rdb_transactions.specs.Records.{on_hand, is_single_writer, exchanged, spare_left, latched, unlatched, opened, closed, becomes_marked, rolls_back}
 use Rattle.rdb_transactions.specs.Sound.{IsOrderly}
 

@@ -1,5 +1,5 @@
 -- What is so between two calls, as one slot changes.
-use Rattle.std.proofs.Common.{◌≡◌, ◌+◌, ◌≤◌, ◌<◌, ◌++◌, Result, Ok, Err, OnOk, OnErr, ℕ, zero, suc, Bool, true, false, cond, List, [], ◌∷◌, length, set, get_or, Option, Some, None, IsSome, slice_get, option_map, refl, sym, ap, subst, ◌∙◌, arith}
+use Rattle.std.proofs.Common.{◌≡◌, ◌+◌, ◌≤◌, ◌++◌, Result, Ok, Err, OnOk, OnErr, ℕ, zero, suc, Bool, true, false, cond, List, [], ◌∷◌, length, set, Option, Some, None, slice_get, option_map, refl, sym, ap, subst, ◌∙◌, arith}
 use Rattle.std.specs.List.{sum_by}
 use Rattle.std.proofs.lemmas.List.{append-nil}
 use Rattle.std.proofs.lemmas.List.Sums.{sum_by-set, length-filter, count_by-le-length}
@@ -15,7 +15,7 @@ use Rattle.rdb_registry.specs.declared.seat.Seat.{Seat}
 use Rattle.rdb_registry.specs.Registry.{Roll}
 use Rattle.rdb_registry.specs.Seats.{Seats, seat_in, seat_of, EachSeat, changed}
 use Rattle.rdb_transactions.specs.declared.transactions.Transactions.{Transactions}
-use Rattle.rdb_transactions.specs.Claims.{places_of, writes_of, places_in, writes_of_slot, writes_in, is_unmarked, HasRoom, AreClaimed, Covers}
+use Rattle.rdb_transactions.specs.Claims.{places_of, writes_of, places_in, writes_of_slot, writes_in, is_unmarked, HasRoom, Covers}
 use Rattle.rdb_transactions.specs.declared.claims.Claims.{Claims}
 use Rattle.rdb_transactions.specs.Moves.{IsSame}
 use Rattle.rdb_transactions.specs.Sound.{IsOrderly, IsSoundBut, IsSound}

@@ -1,5 +1,5 @@
 -- What is claimed of the journal's reserved room, so that no call that ends something lacks memory.
-use Rattle.std.specs.Prelude.{◌≡◌, ◌+◌, ◌≤◌, ◌<◌, ℕ, Bool, false, List, [], length, Option, Some, None, is_some, is_none, if◌then◌else◌}
+use Rattle.std.specs.Prelude.{◌≡◌, ◌+◌, ◌≤◌, ◌<◌, ℕ, Bool, false, List, length, Option, is_some, is_none, if◌then◌else◌}
 use Rattle.std.specs.List.{sum_by, filter_map}
 use Rattle.std.specs.Option.{option_map_or}
 use Rattle.rdb_base.specs.declared.limits.TheConstants.{MAX_PLACES}

@@ -1,6 +1,5 @@
 -- Changes of what a connection has in hand. Each says what it changes, and all else is as it was.
 use Rattle.std.specs.Prelude.{ℕ, ◌+◌, ◌-◌, ◌==◌, ◌&&◌, Bool, List, [], ◌∷◌, ◌++◌, length, position, slice_set, Option, Some, None}
-use Rattle.rdb_base.specs.Room.{Reserved}
 use Rattle.rdb_base.specs.declared.identity.Phase.{Phase}
 use Rattle.rdb_base.specs.declared.identity.Phase.TheVariants as phase
 use Rattle.rdb_base.specs.declared.journal.Cause.{Cause}

@@ -1,13 +1,11 @@
 -- What a record has in hand by its phase, in memory: cells aside. A condemned one keeps its phase while it is repaired.
-use Rattle.std.specs.Prelude.{◌≡◌, ℕ, List, [], Option, Some, None, IsSome, IsSomeAnd}
+use Rattle.std.specs.Prelude.{◌≡◌, [], None, IsSome, IsSomeAnd}
 use Rattle.std.specs.List.{filter_map}
-use Rattle.rdb_base.specs.declared.identity.Kind.{Kind}
 use Rattle.rdb_base.specs.declared.identity.Kind.TheVariants as kind
 use Rattle.rdb_base.specs.declared.identity.Phase.{Phase}
 use Rattle.rdb_base.specs.declared.identity.Phase.TheVariants as phase
 use Rattle.rdb_model.specs.Touch.{written_by}
 use Rattle.rdb_registry.specs.declared.seat.Seat.{Seat}
-use Rattle.rdb_registry.specs.declared.seat.Transaction.{Transaction}
 
 -- no work is unfinished: nothing is in work, planned, or to be taken back, and no latch is held
 pub record IsAtRest (seat : Seat) : Type 0 where

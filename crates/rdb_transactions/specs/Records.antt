@@ -1,5 +1,5 @@
 -- Changes of one record among those of a registry.
-use Rattle.std.specs.Prelude.{ℕ, Bool, true, false, [], ◌∷◌, ◌++◌, is_some, option_and_then, if◌then◌else◌}
+use Rattle.std.specs.Prelude.{ℕ, Bool, false, [], ◌∷◌, ◌++◌, is_some, option_and_then, if◌then◌else◌}
 use Rattle.std.specs.Option.{option_map_or}
 use Rattle.rdb_base.specs.declared.identity.Kind.{Kind}
 use Rattle.rdb_base.specs.declared.identity.Manager.{Manager}

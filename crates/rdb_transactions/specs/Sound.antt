@@ -1,14 +1,13 @@
 -- What is so of the connections, their transactions and the journal between any two calls.
-use Rattle.std.specs.Prelude.{◌≡◌, ◌≢◌, ◌+◌, ◌≤◌, ℕ, List, [], length, Some, None, IsSomeAnd, if◌then◌else◌}
+use Rattle.std.specs.Prelude.{◌≡◌, ◌≢◌, ◌+◌, ◌≤◌, ℕ, List, [], length, Some, IsSomeAnd, if◌then◌else◌}
 use Rattle.rdb_base.specs.declared.identity.ConnId.{ConnId}
 use Rattle.rdb_base.specs.declared.identity.Kind.{Kind}
 use Rattle.rdb_base.specs.declared.identity.Kind.TheVariants as kind
-use Rattle.rdb_base.specs.declared.identity.Manager.{Manager}
 use Rattle.rdb_base.specs.declared.identity.Manager.TheVariants as manager
 use Rattle.rdb_base.specs.declared.operation.Op.{Op}
 use Rattle.rdb_base.specs.declared.operation.Reply.{Reply}
 use Rattle.rdb_registry.specs.declared.seat.Seat.{Seat}
-use Rattle.rdb_registry.specs.Seats.{seat_in, seat_of, EachSeat, HoldsLatch}
+use Rattle.rdb_registry.specs.Seats.{seat_in, seat_of, EachSeat}
 use Rattle.rdb_transactions.specs.declared.transactions.Transactions.{Transactions}
 use Rattle.rdb_transactions.specs.Phases.{IsInPhase}
 use Rattle.rdb_transactions.specs.Claims.{AreClaimed, is_unmarked}

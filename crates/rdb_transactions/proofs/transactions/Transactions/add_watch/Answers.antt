@@ -1,7 +1,7 @@
-use Rattle.std.proofs.Common.{◌≡◌, ◌∷◌, ◌++◌, [], length, set, refl}
+use Rattle.std.proofs.Common.{◌≡◌, ◌∷◌, ◌++◌, [], length, refl}
 use Rattle.rdb_base.specs.declared.identity.Phase.TheVariants as phase
 use Rattle.rdb_registry.specs.declared.seat.Seat.{Seat}
-use Rattle.rdb_transactions.specs.Hands.{with_watch, with_watch_at}
+use Rattle.rdb_transactions.specs.Hands.{with_watch}
 use Rattle.rdb_transactions.specs.Records.{on_hand}
 use Rattle.rdb_transactions.proofs.EditLemmas.{of_held, seats_edited}
 use Rattle.rdb_transactions.proofs.PhaseLemmas.{watching_orderly}

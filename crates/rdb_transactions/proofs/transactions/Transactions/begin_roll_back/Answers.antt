@@ -1,8 +1,6 @@
-use Rattle.std.proofs.Common.{◌≡◌, ◌+◌, ◌≤◌, [], length, cond, is_some, IsSome, refl, sym, ap, subst, ◌∙◌, arith}
+use Rattle.std.proofs.Common.{◌+◌, [], length, refl, sym, ap, subst, arith}
 use Rattle.rdb_base.specs.declared.identity.Phase.TheVariants as phase
 use Rattle.rdb_registry.specs.declared.seat.Seat.{Seat}
-use Rattle.rdb_registry.specs.Seats.{seat_of}
-use Rattle.rdb_transactions.specs.Claims.{writes_in, writes_of}
 use Rattle.rdb_transactions.specs.Hands.{given_up, rolling_back}
 use Rattle.rdb_transactions.specs.Phases.{IsUnmarked}
 use Rattle.rdb_transactions.specs.Records.{on_hand, unlatched, rolls_back}

@@ -1,8 +1,5 @@
-use Rattle.std.proofs.Common.{◌≡◌, ◌+◌, ◌<◌, ◌≤◌, [], length, Option, Some, None, refl, sym, ap, ◌∙◌, arith}
-use Rattle.rdb_registry.specs.declared.seat.Seat.{Seat}
+use Rattle.std.proofs.Common.{◌≡◌, ◌<◌, [], length, Some, None, sym, ap, arith}
 use Rattle.rdb_registry.specs.Registry.{Roll}
-use Rattle.rdb_cells.specs.Records.{Record}
-use Rattle.rdb_base.specs.declared.journal.Entry.{Entry}
 use Rattle.rdb_transactions.specs.declared.claims.Claims.{Claims}
 use Rattle.rdb_transactions.proofs.EditLemmas.{lowest_there}
 use Rattle.rdb_transactions.proofs.PhaseLemmas.{new_orderly, new_claims}

@@ -1,5 +1,4 @@
-use Rattle.std.proofs.Common.{◌≡◌, ◌+◌, ◌≤◌, [], false, length, IsSome, IsSomeAnd, refl, sym, ap, subst, ◌∙◌, arith}
-use Rattle.rdb_base.specs.declared.identity.Kind.TheVariants as kind
+use Rattle.std.proofs.Common.{◌≡◌, [], false, length, sym, ap, subst, ◌∙◌, arith}
 use Rattle.rdb_base.specs.declared.identity.Phase.TheVariants as phase
 use Rattle.rdb_cells.specs.Records.{Record}
 use Rattle.rdb_history.specs.Kept.{Kept}

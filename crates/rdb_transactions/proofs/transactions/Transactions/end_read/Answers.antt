@@ -1,7 +1,6 @@
-use Rattle.std.proofs.Common.{◌≡◌, ◌+◌, ◌≤◌, ◌∷◌, [], true, length, Some, IsSome, IsSomeAnd, Option, refl, sym, ap, subst, ◌∙◌, arith}
+use Rattle.std.proofs.Common.{◌≡◌, ◌∷◌, [], true, length, IsSome, IsSomeAnd, Option, refl, sym, ap, subst, ◌∙◌, arith}
 use Rattle.rdb_base.specs.declared.identity.Kind.TheVariants as kind
 use Rattle.rdb_base.specs.declared.identity.Phase.TheVariants as phase
-use Rattle.rdb_base.specs.declared.journal.Cause.{Cause}
 use Rattle.rdb_base.specs.declared.journal.Entry.TheVariants as entry
 use Rattle.rdb_base.specs.declared.journal.Story.{Story}
 use Rattle.rdb_registry.specs.declared.seat.Seat.{Seat}
@@ -9,13 +8,12 @@ use Rattle.rdb_registry.specs.declared.seat.Transaction.{Transaction}
 use Rattle.rdb_registry.specs.Registry.{Roll}
 use Rattle.rdb_registry.specs.Seats.{seat_of}
 use Rattle.rdb_registry.proofs.SlotLemmas.{some_of}
-use Rattle.rdb_transactions.specs.Claims.{is_unmarked}
 use Rattle.rdb_transactions.specs.Hands.{without_story}
 use Rattle.rdb_transactions.specs.Records.{on_hand, story_in}
 use Rattle.rdb_transactions.specs.Moves.{ends_with_story, Moves}
-use Rattle.rdb_transactions.proofs.EditLemmas.{of_held, has_seat, has_from, seat_edited, same_seat}
+use Rattle.rdb_transactions.proofs.EditLemmas.{of_held, has_from, seat_edited}
 use Rattle.rdb_transactions.proofs.EndingLemmas.{MayEnd, ends_story}
-use Rattle.rdb_transactions.proofs.PhaseLemmas.{in_its_phase, one_open, unmarked_of, unmarked_kind, reading_open, rolling_open, reader_not_single, spare_left_not}
+use Rattle.rdb_transactions.proofs.PhaseLemmas.{in_its_phase, one_open, unmarked_of, unmarked_kind, reading_open, reader_not_single, spare_left_not}
 use Rattle.rdb_transactions.proofs.SoundLemmas.{orderly_of, covers_story}
 use Rattle.rdb_transactions.proofs.transactions.Transactions.end_read.Goals as goal
 

@@ -1,11 +1,11 @@
-use Rattle.std.proofs.Common.{◌≡◌, ◌∷◌, ◌++◌, [], length, set, refl}
+use Rattle.std.proofs.Common.{◌≡◌, [], length, set, refl}
 use Rattle.rdb_base.specs.declared.identity.Phase.TheVariants as phase
 use Rattle.rdb_registry.specs.declared.seat.Seat.{Seat}
-use Rattle.rdb_transactions.specs.Hands.{with_watch, with_watch_at}
+use Rattle.rdb_transactions.specs.Hands.{with_watch_at}
 use Rattle.rdb_transactions.specs.Records.{on_hand}
 use Rattle.rdb_transactions.proofs.EditLemmas.{of_held, seats_edited}
 use Rattle.rdb_transactions.proofs.PhaseLemmas.{watching_orderly}
-use Rattle.rdb_transactions.proofs.SoundLemmas.{sound_still, sound_unchanged, orderly_of, ok_or_err}
+use Rattle.rdb_transactions.proofs.SoundLemmas.{sound_still, orderly_of}
 use Rattle.rdb_transactions.proofs.transactions.Transactions.move_watch.Goals as goal
 
 pub returns-clause-sound : goal.returns-clause-sound

@@ -1,13 +1,11 @@
 -- Nothing is claimed, since no slot is held.
-use Rattle.std.proofs.Common.{◌≡◌, ◌≤◌, ◌+◌, ℕ, zero, suc, List, [], ◌∷◌, replicate, Option, Some, None, slice_get, refl, sym, ap, subst, ◌∙◌, arith, length}
-use Rattle.std.specs.List.{sum_by}
+use Rattle.std.proofs.Common.{◌≡◌, ◌+◌, ℕ, zero, suc, [], replicate, Some, None, sym, ap, subst, arith, length}
 use Rattle.std.proofs.lemmas.List.Folds.{sum_by-replicate}
-use Rattle.rdb_base.specs.declared.limits.TheConstants.{MAX_PLACES}
 use Rattle.rdb_history.specs.Kept.{Kept}
 use Rattle.rdb_registry.specs.declared.seat.Seat.{Seat}
 use Rattle.rdb_registry.specs.Seats.{Seats, slot_count, seat_in, EachSeat}
-use Rattle.rdb_transactions.specs.Claims.{places_in, writes_of_slot, HasRoom, AreClaimed}
-use Rattle.rdb_transactions.specs.Sound.{IsSoundBut, IsOrderly}
+use Rattle.rdb_transactions.specs.Claims.{places_in, writes_of_slot, AreClaimed}
+use Rattle.rdb_transactions.specs.Sound.{IsOrderly}
 use Rattle.rdb_transactions.specs.declared.claims.Claims.{Claims}
 use Rattle.rdb_transactions.proofs.transactions.Transactions.new.Goals as goal
 

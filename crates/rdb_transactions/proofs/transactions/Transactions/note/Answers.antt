@@ -1,4 +1,4 @@
-use Rattle.std.proofs.Common.{◌≡◌, ◌+◌, [], length, refl, ap}
+use Rattle.std.proofs.Common.{◌≡◌, [], length, refl}
 use Rattle.rdb_base.specs.declared.identity.Kind.{Kind}
 use Rattle.rdb_base.specs.declared.identity.Phase.TheVariants as phase
 use Rattle.rdb_registry.specs.declared.seat.Seat.{Seat}

@@ -1,13 +1,9 @@
-use Rattle.std.proofs.Common.{◌≡◌, [], length, Some, refl, ap, ◌∙◌, subst}
-use Rattle.rdb_base.specs.declared.identity.Phase.TheVariants as phase
+use Rattle.std.proofs.Common.{◌≡◌, length, refl}
 use Rattle.rdb_model.specs.Journal.{commits}
 use Rattle.rdb_registry.specs.declared.seat.Seat.{Seat}
-use Rattle.rdb_registry.specs.Registry.{Roll}
-use Rattle.rdb_registry.specs.Seats.{with_begun}
-use Rattle.rdb_transactions.specs.Hands.{in_phase}
-use Rattle.rdb_transactions.specs.Records.{on_hand, latched, spare_left, edited, opened}
+use Rattle.rdb_transactions.specs.Records.{spare_left, opened}
 use Rattle.rdb_transactions.specs.Moves.{opens}
-use Rattle.rdb_transactions.proofs.EditLemmas.{then_edited, seat_edited, has_seat}
+use Rattle.rdb_transactions.proofs.EditLemmas.{seat_edited, has_seat}
 use Rattle.rdb_transactions.proofs.OpeningLemmas.{opens_two, opens_three}
 use Rattle.rdb_transactions.proofs.PhaseLemmas.{latched_conn}
 use Rattle.rdb_transactions.proofs.SoundLemmas.{nothing_more}

@@ -1,6 +1,5 @@
-use Rattle.std.proofs.Common.{◌≡◌, ◌+◌, ◌^◌, ◌<◌, ◌≤◌, [], false, length, None, Option, Some, IsSomeAnd, refl, sym, ap, subst, ◌∙◌, arith}
+use Rattle.std.proofs.Common.{◌≡◌, ◌+◌, ◌^◌, ◌<◌, ◌≤◌, [], false, length, None, Option, IsSomeAnd, sym, ap, subst, ◌∙◌, arith}
 use Rattle.rdb_base.specs.declared.identity.Phase.TheVariants as phase
-use Rattle.rdb_base.specs.declared.journal.Entry.{Entry}
 use Rattle.rdb_model.specs.Journal.{commits}
 use Rattle.rdb_history.specs.Kept.{Kept}
 use Rattle.rdb_registry.specs.declared.seat.Seat.{Seat}
@@ -8,7 +7,7 @@ use Rattle.rdb_registry.specs.Registry.{Roll}
 use Rattle.rdb_cells.specs.Records.{Record}
 use Rattle.rdb_registry.specs.Seats.{seat_of, changed}
 use Rattle.rdb_transactions.specs.declared.claims.Claims.{Claims}
-use Rattle.rdb_transactions.specs.Claims.{is_unmarked, HasRoom}
+use Rattle.rdb_transactions.specs.Claims.{HasRoom}
 use Rattle.rdb_transactions.specs.Moves.{begins}
 use Rattle.rdb_transactions.proofs.EditLemmas.{of_held, seats_edited}
 use Rattle.rdb_transactions.proofs.OpeningLemmas.{spare_opened}

@@ -1,8 +1,6 @@
-use Rattle.std.proofs.Common.{◌≡◌, ◌+◌, List, [], length, Some, IsSome, refl, sym, ap, subst, ◌∙◌, arith}
-use Rattle.rdb_base.specs.declared.operation.Op.{Op}
-use Rattle.rdb_base.specs.declared.operation.Reply.{Reply}
+use Rattle.std.proofs.Common.{◌≡◌, [], length, IsSome, refl, ap, arith}
 use Rattle.rdb_registry.specs.declared.seat.Seat.{Seat}
-use Rattle.rdb_transactions.specs.Claims.{writes_in, writes_of}
+use Rattle.rdb_transactions.specs.Claims.{writes_in}
 use Rattle.rdb_transactions.specs.Hands.{without_story}
 use Rattle.rdb_transactions.specs.Records.{on_hand}
 use Rattle.rdb_transactions.proofs.EditLemmas.{of_held, has_seat, seats_edited}
