@@ -5,6 +5,7 @@ use Rattle.std.specs.Option.{option_map_or}
 use Rattle.std.proofs.Common.{ne_eqb}
 use Rattle.std.proofs.lemmas.List.{append-nil}
 use Rattle.rdb_base.specs.declared.identity.ConnId.{ConnId}
+use Rattle.rdb_base.specs.declared.identity.EventPlace.{EventPlace}
 use Rattle.rdb_base.specs.declared.identity.Kind.{Kind}
 use Rattle.rdb_base.specs.declared.identity.Kind.TheVariants as kind
 use Rattle.rdb_base.specs.declared.identity.Manager.{Manager}
@@ -121,3 +122,7 @@ running_unmarked t c away s h =
     unmarked : (k : Kind) (seat : Seat) → IsInPhase (phase.Running k) seat → IsUnmarked seat
     unmarked kind.ReadOnly seat i = unmarked_kind seat kind.ReadOnly i.transaction
     unmarked kind.ReadWrite seat i = unmarked_kind seat kind.ReadWrite i.transaction
+
+-- a place, by its pair
+pub place_is : (p : EventPlace) (q : ℕ × ℕ) → (p.commit, p.id) ≡ q → p ≡ record { commit = q.0; id = q.1 }
+place_is p q e = ap (λ (x : ℕ × ℕ). record { commit = x.0; id = x.1 }) e

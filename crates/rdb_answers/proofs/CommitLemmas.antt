@@ -152,7 +152,7 @@ running_writes : (t : Transactions) (c : ConnId) (seat : Seat) → IsSound t →
 running_writes t c seat s h at =
     in_its_phase _ seat (phase.Running kind.ReadWrite) (orderly_of [] t c seat s at) (has_seat t.registry.seats c (λ (x : Seat). x.hand.phase ≡ phase.Running kind.ReadWrite) seat h at)
 
-kind_of : (k : Kind) (o : Option Transaction) (t : Transaction) → IsSomeAnd o (λ x. (x.kind ≡ k) × (x.mark ≡ None)) → o ≡ Some t → t.kind ≡ k
+pub kind_of : (k : Kind) (o : Option Transaction) (t : Transaction) → IsSomeAnd o (λ x. (x.kind ≡ k) × (x.mark ≡ None)) → o ≡ Some t → t.kind ≡ k
 kind_of k o t h e = let there = subst (λ (p : Option Transaction). IsSomeAnd p (λ x. (x.kind ≡ k) × (x.mark ≡ None))) e h in there.0
 
 -- what is known once a story was moved out of the record of a running writer
