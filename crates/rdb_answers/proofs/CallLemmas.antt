@@ -1,5 +1,5 @@
 -- What is so of a connection's record, and moves one after the other.
-use Rattle.std.proofs.Common.{◌≡◌, ◌≢◌, ◌++◌, ◌&&◌, ◌||◌, ◌==◌, ◌⊎◌, ℕ, Bool, true, false, not, List, [], Option, Some, None, IsSome, IsSomeAnd, option_map, refl, sym, ap, subst, ◌∙◌, inl, inr, absurd, append_assoc}
+use Rattle.std.proofs.Common.{◌≡◌, ◌≢◌, ◌++◌, ◌&&◌, ◌||◌, ◌==◌, ◌⊎◌, ℕ, Bool, true, false, not, List, [], Option, Some, None, IsSome, IsSomeAnd, option_map, slice_get, refl, sym, ap, subst, ◌∙◌, inl, inr, absurd, append_assoc}
 use Rattle.std.specs.Bool.{OnTrue, OnFalse}
 use Rattle.std.specs.Option.{option_map_or}
 use Rattle.std.proofs.Common.{ne_eqb}
@@ -16,11 +16,14 @@ use Rattle.rdb_base.specs.declared.operation.Reply.{Reply}
 use Rattle.rdb_base.specs.declared.identity.Phase.TheVariants as phase
 use Rattle.rdb_base.specs.declared.journal.Entry.{Entry}
 use Rattle.rdb_mursiw.specs.Admission.{bars, bars_in, is_same, keeps_out}
+use Rattle.rdb_registry.specs.declared.hand.Subscription.{Subscription}
 use Rattle.rdb_registry.specs.declared.seat.Seat.{Seat}
 use Rattle.rdb_registry.specs.declared.seat.Transaction.{Transaction}
 use Rattle.rdb_registry.specs.Registry.{Roll, IsRoll}
 use Rattle.rdb_registry.specs.Seats.{Seats, seat_in, seat_of}
 use Rattle.rdb_answers.specs.Callers.{IsFree, Runs}
+use Rattle.rdb_answers.specs.Watching.{IsWatchAmong}
+use Rattle.rdb_transactions.specs.Hands.{watch_of}
 use Rattle.rdb_transactions.specs.declared.transactions.Transactions.{Transactions}
 use Rattle.rdb_transactions.specs.Phases.{IsUnmarked, IsInPhase}
 use Rattle.rdb_transactions.specs.Records.{edited, rolls_back, story_in}
@@ -126,3 +129,14 @@ running_unmarked t c away s h =
 -- a place, by its pair
 pub place_is : (p : EventPlace) (q : ℕ × ℕ) → (p.commit, p.id) ≡ q → p ≡ record { commit = q.0; id = q.1 }
 place_is p q e = ap (λ (x : ℕ × ℕ). record { commit = x.0; id = x.1 }) e
+
+-- an event has one watch
+pub watch_same :
+    (class event : ℕ) (watches : List Subscription) (number : ℕ) (place : EventPlace) (k : ℕ) (watch : Subscription) → IsWatchAmong class event watches number place
+    → watch_of class event watches ≡ Some k → slice_get watches k ≡ Some watch → (number ≡ k) × (place ≡ watch.place)
+watch_same class event watches number place k watch w found here =
+    let numbers : Some number ≡ Some k = sym w.found ∙ found in
+    let same : number ≡ k = cc in
+    let two : Some w.watch ≡ Some watch = sym w.at ∙ (ap (slice_get watches) same ∙ here) in
+    let one : w.watch ≡ watch = cc in
+    (same, sym w.place_is ∙ ap (λ (x : Subscription). x.place) one)

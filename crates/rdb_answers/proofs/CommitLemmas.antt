@@ -99,15 +99,17 @@ commit_from_mark schema before moved after c story (answer.Ready (outcome.Commit
       (subst (λ (u : Record). after.spare_undo ≡ spare_left moved.manager u (marks commit seat)) m.spare told);
 }
 commit_from_mark schema before moved after c story answer.More m h a =
-    let commit = commits moved.journal.entries + 1 in
-    (commit, record {
-      marks_it =
-          marks_from schema before moved after c story commit (marks commit) m h refl
-          (moves_two before moved after c (on_hand without_story) (becomes_marked commit) [] (entry.Commit story commit ∷ []) m.moves a.1);
-      some_left = λ seat t at opened. has_seat before.registry.seats c (λ (s : Seat). s.hand.own.items ≢ []) seat
-          (has_back before.registry moved.registry c (on_hand without_story) (λ (s : Seat). s.hand.own.items ≢ []) (λ s. refl) m.moves.registry m.held a.0) at;
-      spare = a.2 ∙ m.spare;
-    })
+    let commit = commits moved.journal.entries + 1 in (
+      commit,
+      record {
+        marks_it =
+            marks_from schema before moved after c story commit (marks commit) m h refl
+            (moves_two before moved after c (on_hand without_story) (becomes_marked commit) [] (entry.Commit story commit ∷ []) m.moves a.1);
+        some_left = λ seat t at opened. has_seat before.registry.seats c (λ (s : Seat). s.hand.own.items ≢ []) seat
+            (has_back before.registry moved.registry c (on_hand without_story) (λ (s : Seat). s.hand.own.items ≢ []) (λ s. refl) m.moves.registry m.held a.0) at;
+        spare = a.2 ∙ m.spare;
+      },
+    )
 commit_from_mark schema before moved after c story (answer.Ready (outcome.Begun s b)) m h a = absurd a
 commit_from_mark schema before moved after c story (answer.Ready (outcome.Did r)) m h a = absurd a
 commit_from_mark schema before moved after c story (answer.Ready (outcome.Ended at)) m h a = absurd a
@@ -131,8 +133,8 @@ pub refuses_alike :
 refuses_alike before moved after c seat done commit operation at is same m =
     let why = cause.Conflict commit operation in
     let at_seat : refuses moved.manager done commit operation (on_hand without_story seat) ≡ conflicts before.manager commit operation seat =
-        ap (λ (d : List (Op × Reply)). rolls_back moved.manager why (on_hand (with_story d) seat)) is
-        ∙ ap (λ (x : Manager). rolls_back x why (on_hand (with_story seat.hand.done.items) seat)) (sym same) in
+    ap (λ (d : List (Op × Reply)). rolls_back moved.manager why (on_hand (with_story d) seat)) is
+    ∙ ap (λ (x : Manager). rolls_back x why (on_hand (with_story seat.hand.done.items) seat)) (sym same) in
     record {
       manager = m.manager;
       registry = m.registry ∙ ap (λ (ss : Seats). record before.registry { seats = ss })

@@ -41,14 +41,17 @@ fn a_writer_keeps_others_out_until_it_is_over(rt: HostRuntime) -> Result<(), Fai
         Answer::Busy { holder: writer }
     );
     assert!(rt; is_in(&t, writer, Phase::Running(Kind::ReadWrite)));
-    assert_eq!(rt; roll_back(&mut t, writer), Answer::Ready(Outcome::RolledBack));
-    assert_eq!(rt; condemn(&mut t, writer, reader), Answer::Ready(Outcome::RolledBack));
+    assert_eq!(rt;
+        roll_back(&mut t, writer),
+        Answer::Ready(Outcome::RolledBack)
+    );
+    assert_eq!(rt;
+        condemn(&mut t, writer, reader),
+        Answer::Ready(Outcome::RolledBack)
+    );
     assert_eq!(rt;
         disconnect(&mut t, reader),
-        Answer::Gone {
-            by: writer,
-            at: 1
-        }
+        Answer::Gone { by: writer, at: 1 }
     );
     Ok(())
 }

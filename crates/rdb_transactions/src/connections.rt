@@ -50,7 +50,8 @@ impl Transactions {
         requires { IsSound self.old }
         ensures ok { IfOk result (Comes self.old self.new) }
         ensures full { AllHeld self.old.registry.seats → OnOk result ⊥ }
-        ensures too_many { (held : ℕ) → result ≡ Err (ConnectFault.TooMany held) → (held ≡ slot_count) × AllHeld self.old.registry.seats }
+        ensures too_many { (held : ℕ) → result ≡ Err (ConnectFault.TooMany held) →
+            (held ≡ slot_count) × AllHeld self.old.registry.seats }
         ensures err { OnErr result (IsSame self.old self.new) }
         ensures sound { IsSound self.new }
     {

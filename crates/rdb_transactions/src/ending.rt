@@ -106,7 +106,8 @@ impl Transactions {
     pub fn end_read(&mut self, c: ConnId) -> u64
         requires sound { IsSound self.old }
         requires reading { Has self.old c (λ seat. seat.hand.phase ≡ phase.Running kind.ReadOnly) }
-        ensures moves { (seat : Seat) (t : Transaction) → seat_of self.old.registry.seats c ≡ Some seat → seat.transaction ≡ Some t →
+        ensures moves { (seat : Seat) (t : Transaction) →
+            seat_of self.old.registry.seats c ≡ Some seat → seat.transaction ≡ Some t →
             Moves self.old self.new c (ends_with_story self.old) (entry.Read (story_in c t seat.hand) ∷ []) }
         ensures snapshot { Has self.old c (λ seat. IsSomeAnd seat.transaction (λ t. t.snapshot ≡ result)) }
         ensures spare { KeepsSpare self.old self.new }

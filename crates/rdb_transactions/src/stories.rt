@@ -39,7 +39,8 @@ impl Transactions {
     pub fn story_of(&mut self, c: ConnId) -> Story
         requires sound { IsSound self.old }
         requires opened { Has self.old c (λ seat. IsSome seat.transaction) }
-        ensures story { (seat : Seat) (t : Transaction) → seat_of self.old.registry.seats c ≡ Some seat → seat.transaction ≡ Some t →
+        ensures story { (seat : Seat) (t : Transaction) →
+            seat_of self.old.registry.seats c ≡ Some seat → seat.transaction ≡ Some t →
             result ≡ story_in c t seat.hand }
         ensures limit { length result.done ≤ MAX_PLACES }
         ensures moves { Moves self.old self.new c (on_hand without_story) [] }

@@ -55,15 +55,17 @@ returns-then-has_no_version-clause-answer c =
     let change = becomes_marked number in
     let held = is_held before.registry.seats c.args.c IsMovedOut c.requires.moved in
     let none = has_back before.registry marked.registry c.args.c change (λ (s : Seat). s.hand.own.items ≡ []) (λ s. refl) c.mark.ensures.moves.registry held
-        (on_true c.has_no_version.result c.if-has_no_version.true c.has_no_version.ensures.yes) in
-    subst (λ (n : ℕ). MarkAnswer before after c.args.c c.args.story (answer.Ready (outcome.Committed n))) (sym is)
-    (refl, none,
-    ends_alike before marked after c.args.c change (entry.Commit c.args.story number ∷ []) c.mark.ensures.moves.manager c.mark.ensures.spare
-    (moves_then before marked after c.args.c change (ends marked) (entry.Commit c.args.story number ∷ []) c.mark.ensures.moves c.end_committed.ensures.moves),
-    λ seat at.
-    let told = c.end_committed.ensures.spare (change seat) (seat_edited before.registry marked.registry c.args.c change seat (λ s. refl) c.mark.ensures.moves.registry at) in
-    subst (λ (m : Manager). after.spare_undo ≡ spare_left m before.spare_undo (change seat)) c.mark.ensures.moves.manager
-    (subst (λ (u : Record). after.spare_undo ≡ spare_left marked.manager u (change seat)) c.mark.ensures.spare told))
+    (on_true c.has_no_version.result c.if-has_no_version.true c.has_no_version.ensures.yes) in
+    subst (λ (n : ℕ). MarkAnswer before after c.args.c c.args.story (answer.Ready (outcome.Committed n))) (sym is) (
+      refl,
+      none,
+      ends_alike before marked after c.args.c change (entry.Commit c.args.story number ∷ []) c.mark.ensures.moves.manager c.mark.ensures.spare
+          (moves_then before marked after c.args.c change (ends marked) (entry.Commit c.args.story number ∷ []) c.mark.ensures.moves c.end_committed.ensures.moves),
+      λ seat at.
+          let told = c.end_committed.ensures.spare (change seat) (seat_edited before.registry marked.registry c.args.c change seat (λ s. refl) c.mark.ensures.moves.registry at) in
+          subst (λ (m : Manager). after.spare_undo ≡ spare_left m before.spare_undo (change seat)) c.mark.ensures.moves.manager
+          (subst (λ (u : Record). after.spare_undo ≡ spare_left marked.manager u (change seat)) c.mark.ensures.spare told),
+    )
 
 pub returns-else-has_no_version-clause-answer : goal.returns-else-has_no_version-clause-answer
 returns-else-has_no_version-clause-answer c =
@@ -71,5 +73,5 @@ returns-else-has_no_version-clause-answer c =
     let marked = c.mark.new.self in
     let held = is_held before.registry.seats c.args.c IsMovedOut c.requires.moved in
     let some = has_back before.registry marked.registry c.args.c (becomes_marked (commits before.journal.entries + 1)) (λ (s : Seat). s.hand.own.items ≢ []) (λ s. refl) c.mark.ensures.moves.registry held
-        (on_false c.has_no_version.result c.if-has_no_version.false c.has_no_version.ensures.no) in
+    (on_false c.has_no_version.result c.if-has_no_version.false c.has_no_version.ensures.no) in
     (some, c.mark.ensures.moves, c.mark.ensures.spare)
