@@ -181,7 +181,7 @@ moved_out before moved c roll live h moves =
     let there = of_held before.registry.seats c (λ (x : Seat). x.hand.phase ≡ phase.Running kind.ReadWrite) h in
     has_from moved.registry.seats c IsMovedOut (on_hand without_story there.0)
     (seat_edited before.registry moved.registry c (on_hand without_story) there.0 (λ s. refl) moves.registry there.1.0)
-    (record { phase = there.1.1; live = live_seat before c there.0 roll live there.1.0; empty = refl })
+    (record { running = there.1.1; live = live_seat before c there.0 roll live there.1.0; empty = refl })
 
 -- its transaction is open
 pub running_open : (t : Transactions) (c : ConnId) → IsSound t → IsSomeAnd (seat_of t.registry.seats c) (λ s. s.hand.phase ≡ phase.Running kind.ReadWrite) → IsSomeAnd (seat_of t.registry.seats c) (λ s. IsSome s.transaction)

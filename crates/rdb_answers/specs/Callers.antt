@@ -1,5 +1,5 @@
 -- Who calls: a connection that was condemned may make any call and is told so; another one has to be in the phase that the call asks for.
-use Rattle.std.specs.Prelude.{◌≡◌, ◌≤◌, ℕ, length, Some, None}
+use Rattle.std.specs.Prelude.{◌≡◌, ◌≤◌, ℕ, false, length, Some, None}
 use Rattle.rdb_base.specs.declared.limits.TheConstants.{MAX_OPERATIONS}
 use Rattle.rdb_base.specs.declared.identity.ConnId.{ConnId}
 use Rattle.rdb_base.specs.declared.identity.Kind.{Kind}

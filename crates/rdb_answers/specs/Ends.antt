@@ -31,8 +31,8 @@ use Rattle.rdb_transactions.specs.Moves.{Moves, KeepsSpare, ExchangesSpare, ends
 
 -- whether a story may commit: where many may write, no commit above its snapshot may touch it; a single writer always may
 abbrev pub IsChecked : Schema → Manager → List Entry → Story → Checked → Type 0
-IsChecked schema manager.Mvcc journal story checked = IsAnswer schema journal story checked
-IsChecked schema manager.Mursiw journal story checked = checked ≡ checked.Clear
+IsChecked schema manager.Mvcc journal story said = IsAnswer schema journal story said
+IsChecked schema manager.Mursiw journal story said = said ≡ checked.Clear
 
 -- what is so of the record and the open transaction of a connection
 abbrev pub Of : Transactions → ConnId → (Seat → Transaction → Type 0) → Type 0
@@ -88,7 +88,7 @@ pub record Conflicts (schema : Schema) (before after : Transactions) (c : ConnId
 
 -- the record of a running transaction whose story was moved out to be validated
 pub record IsMovedOut (seat : Seat) : Type 0 where
-  pub phase : seat.hand.phase ≡ phase.Running kind.ReadWrite
+  pub running : seat.hand.phase ≡ phase.Running kind.ReadWrite
   pub live : seat.condemned ≡ None
   pub empty : seat.hand.done.items ≡ []
 

@@ -11,8 +11,8 @@ use Rattle.rdb_transactions.specs.Hands.{watch_of}
 
 -- a connection that was condemned and is there is Condemned; another one is in its phase
 abbrev pub phase_by : Option Condemned → Phase → Phase
-phase_by None phase = phase
-phase_by (Some condemned) phase = phase.Condemned
+phase_by None own = own
+phase_by (Some condemned) own = phase.Condemned
 
 abbrev pub phase_in : Seat → Phase
 phase_in seat = phase_by seat.condemned seat.hand.phase

@@ -25,7 +25,7 @@ overflow_add-commit c =
     omega (arith, few, limit, is)
 
 pub mark-requires-clause-running : goal.mark-requires-clause-running
-mark-requires-clause-running c = has_map c.args.t.now.registry.seats c.args.c IsMovedOut (λ (s : Seat). s.hand.phase ≡ phase.Running kind.ReadWrite) (λ s m. m.phase) c.requires.moved
+mark-requires-clause-running c = has_map c.args.t.now.registry.seats c.args.c IsMovedOut (λ (s : Seat). s.hand.phase ≡ phase.Running kind.ReadWrite) (λ s m. m.running) c.requires.moved
 
 pub mark-requires-clause-live : goal.mark-requires-clause-live
 mark-requires-clause-live c = has_map c.args.t.now.registry.seats c.args.c IsMovedOut (λ (s : Seat). s.condemned ≡ None) (λ s m. m.live) c.requires.moved

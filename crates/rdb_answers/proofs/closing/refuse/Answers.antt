@@ -15,7 +15,7 @@ use Rattle.rdb_transactions.proofs.EditLemmas.{has_after}
 use Rattle.rdb_answers.proofs.closing.refuse.Goals as goal
 
 pub put_story_back-requires-clause-running : goal.put_story_back-requires-clause-running
-put_story_back-requires-clause-running c = has_map c.args.t.now.registry.seats c.args.c IsMovedOut (λ (s : Seat). s.hand.phase ≡ phase.Running kind.ReadWrite) (λ s m. m.phase) c.requires.moved
+put_story_back-requires-clause-running c = has_map c.args.t.now.registry.seats c.args.c IsMovedOut (λ (s : Seat). s.hand.phase ≡ phase.Running kind.ReadWrite) (λ s m. m.running) c.requires.moved
 
 pub put_story_back-requires-clause-empty : goal.put_story_back-requires-clause-empty
 put_story_back-requires-clause-empty c = has_map c.args.t.now.registry.seats c.args.c IsMovedOut (λ (s : Seat). s.hand.done.items ≡ []) (λ s m. m.empty) c.requires.moved
@@ -25,7 +25,7 @@ begin_roll_back-requires-clause-opened c =
     let before = c.args.t.now in
     running_unmarked c.put_story_back.new.self c.args.c [] c.put_story_back.ensures.sound
     (has_after before.registry c.put_story_back.new.self.registry c.args.c (on_hand (with_story c.args.story.done)) IsMovedOut Runs (λ s. refl) c.put_story_back.ensures.moves.registry
-    (λ seat m. (kind.ReadWrite, m.phase)) c.requires.moved)
+    (λ seat m. (kind.ReadWrite, m.running)) c.requires.moved)
 
 pub returns-clause-moves : goal.returns-clause-moves
 returns-clause-moves c =
