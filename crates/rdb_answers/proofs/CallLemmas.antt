@@ -1,5 +1,5 @@
 -- What is so of a connection's record, and moves one after the other.
-use Rattle.std.proofs.Common.{◌≡◌, ◌≢◌, ◌++◌, ◌&&◌, ◌||◌, ◌==◌, ◌⊎◌, ℕ, Bool, true, false, not, List, [], Option, Some, None, IsSome, IsSomeAnd, option_map, slice_get, refl, sym, ap, subst, ◌∙◌, inl, inr, absurd, append_assoc}
+use Rattle.std.proofs.Common.{◌≡◌, ◌≢◌, ◌++◌, ◌&&◌, ◌||◌, ◌==◌, ◌⊎◌, ℕ, Bool, true, false, not, List, [], Option, Some, None, IsSome, IsSomeAnd, option_map, slice_get, refl, sym, ap, subst, ◌∙◌, inl, inr, append_assoc}
 use Rattle.std.specs.Bool.{OnTrue, OnFalse}
 use Rattle.std.specs.Option.{option_map_or}
 use Rattle.std.proofs.Common.{ne_eqb}
@@ -55,7 +55,7 @@ pub moves_two :
 moves_two a b d c f g first second m n = record {
   manager = n.manager ∙ m.manager;
   registry = then_edited a.registry b.registry d.registry c.slot f g m.registry n.registry;
-  entries = n.entries ∙ (ap (λ (es : List Entry). es ++ second) m.entries ∙ append_assoc);
+  entries = n.entries ∙ (ap (λ (es : List Entry). es ++ second) m.entries ∙ append_assoc a.journal.entries first second);
 }
 
 -- the second appends nothing
@@ -84,7 +84,7 @@ finds_no_latch t c k s roll free single writes slot seat ne there =
     let o = s.records slot seat there in
     elim (open_in_phase seat.hand.phase seat o.phase) [
       | inl idle ↦ (in_its_phase _ seat phase.Idle o idle).rest.latches
-      | inr opened ↦ let some : IsSome None = subst (λ (x : Option Transaction). IsSome x) none opened in absurd cc
+      | inr opened ↦ let some : IsSome {T = Transaction} None = subst (λ (x : Option Transaction). IsSome x) none opened in absurd cc
     ]
 
 -- what a roll-back leaves of a record as it begins

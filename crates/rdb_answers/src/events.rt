@@ -9,7 +9,7 @@ ghost use Rattle.rdb_answers.specs.Watching.{WatchAnswer, PollAnswer, WatchesEve
 
 use crate::answer::{Answer, Outcome};
 use rdb_base::identity::{ConnId, EventPlace};
-use rdb_events::{Found, next};
+use rdb_events::next;
 use rdb_history::watches::watch_place;
 use rdb_registry::{Condemned, Subscription, Subscriptions};
 use rdb_schema::schema::Schema;
@@ -77,14 +77,20 @@ fn poll_live(t: &mut Transactions, schema: &Schema, c: ConnId, class: u32, event
 {
     let (number, place) = place_of_watch(t, c, class, event);
     match next(schema, class, event, place, &t.journal) {
-        Some(Found { commit, id }) => {
+        Some(found) => {
             let told = Subscription {
                 class,
                 event,
-                place: EventPlace { commit, id },
+                place: EventPlace {
+                    commit: found.commit,
+                    id: found.id,
+                },
             };
             t.move_watch(c, number, told);
-            Answer::Ready(Outcome::Event { commit, id })
+            Answer::Ready(Outcome::Event {
+                commit: found.commit,
+                id: found.id,
+            })
         }
         None => {
             let at = t.journal.commits();

@@ -23,8 +23,8 @@ returns-in-Some-clause-answer c =
     let before = c.args.t.now in
     let number = c.place_of_watch-number.result.0 in
     let place = c.place_of_watch-number.result.1 in
-    let commit = c.in-Some.commit in
-    let id = c.in-Some.id in
+    let commit = c.in-Some.found.commit in
+    let id = c.in-Some.found.id in
     record {
       live = c.requires.live;
       next = λ seat k watch at found here.
