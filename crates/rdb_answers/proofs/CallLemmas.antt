@@ -1,5 +1,5 @@
 -- What is so of a connection's record, and moves one after the other.
-use Rattle.std.proofs.Common.{◌≡◌, ◌≢◌, ◌++◌, ◌&&◌, ◌||◌, ◌==◌, ◌⊎◌, ℕ, Bool, true, false, not, List, [], Option, Some, None, IsSome, IsSomeAnd, option_map, slice_get, refl, sym, ap, subst, ◌∙◌, inl, inr, append_assoc}
+use Rattle.std.proofs.Common.{◌≡◌, ◌≢◌, ◌++◌, ◌&&◌, ◌==◌, ℕ, Bool, true, false, not, List, [], Option, Some, None, IsSome, IsSomeAnd, slice_get, refl, sym, ap, subst, ◌∙◌, inl, inr, append_assoc}
 use Rattle.std.specs.Bool.{OnTrue, OnFalse}
 use Rattle.std.specs.Option.{option_map_or}
 use Rattle.std.proofs.Common.{ne_eqb}
@@ -20,7 +20,7 @@ use Rattle.rdb_registry.specs.declared.hand.Subscription.{Subscription}
 use Rattle.rdb_registry.specs.declared.seat.Seat.{Seat}
 use Rattle.rdb_registry.specs.declared.seat.Transaction.{Transaction}
 use Rattle.rdb_registry.specs.Registry.{Roll, IsRoll}
-use Rattle.rdb_registry.specs.Seats.{Seats, seat_in, seat_of}
+use Rattle.rdb_registry.specs.Seats.{Seats, seat_of}
 use Rattle.rdb_answers.specs.Callers.{IsFree, Runs}
 use Rattle.rdb_answers.specs.Watching.{IsWatchAmong}
 use Rattle.rdb_transactions.specs.Hands.{watch_of}

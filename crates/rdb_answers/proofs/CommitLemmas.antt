@@ -1,12 +1,11 @@
 -- A commit, from the answer of the step that marks a story which was moved out of its record.
-use Rattle.std.proofs.Common.{◌≡◌, ◌≢◌, ◌+◌, ◌++◌, ◌∷◌, ℕ, List, [], Option, Some, None, IsSome, IsSomeAnd, refl, sym, ap, subst, ◌∙◌}
+use Rattle.std.proofs.Common.{◌≡◌, ◌≢◌, ◌+◌, ◌∷◌, ℕ, List, [], Option, Some, None, IsSome, IsSomeAnd, refl, sym, ap, subst, ◌∙◌}
 use Rattle.std.proofs.lemmas.List.{append-nil}
 use Rattle.rdb_base.specs.declared.identity.ConnId.{ConnId}
 use Rattle.rdb_base.specs.declared.identity.Kind.{Kind}
 use Rattle.rdb_base.specs.declared.identity.Kind.TheVariants as kind
 use Rattle.rdb_base.specs.declared.identity.Phase.TheVariants as phase
 use Rattle.rdb_base.specs.declared.identity.Manager.{Manager}
-use Rattle.rdb_base.specs.declared.identity.Manager.TheVariants as manager
 use Rattle.rdb_base.specs.declared.journal.Cause.TheVariants as cause
 use Rattle.rdb_base.specs.declared.operation.Op.{Op}
 use Rattle.rdb_base.specs.declared.operation.Reply.{Reply}
@@ -31,7 +30,7 @@ use Rattle.rdb_answers.specs.Ends.{Of, IsMovedOut, MarkAnswer, CommitAnswer, IsC
 use Rattle.rdb_answers.proofs.CallLemmas.{moves_two, has_back}
 use Rattle.rdb_transactions.specs.declared.transactions.Transactions.{Transactions}
 use Rattle.rdb_transactions.specs.Hands.{without_story, with_story}
-use Rattle.rdb_transactions.specs.Records.{on_hand, edited, exchanged, closed, spare_left, story_in, becomes_marked, rolls_back}
+use Rattle.rdb_transactions.specs.Records.{on_hand, exchanged, closed, spare_left, story_in, becomes_marked, rolls_back}
 use Rattle.rdb_transactions.specs.Phases.{IsRunning}
 use Rattle.rdb_transactions.specs.Sound.{IsSound}
 use Rattle.rdb_transactions.specs.Moves.{Moves, KeepsSpare, ends}

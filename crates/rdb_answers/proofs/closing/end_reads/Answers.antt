@@ -1,4 +1,4 @@
-use Rattle.std.proofs.Common.{◌≡◌, [], Some, IsSomeAnd, Option, sym, ap, subst}
+use Rattle.std.proofs.Common.{◌≡◌, [], IsSomeAnd, Option, sym, subst}
 use Rattle.rdb_base.specs.declared.identity.Kind.TheVariants as kind
 use Rattle.rdb_base.specs.declared.identity.Phase.TheVariants as phase
 use Rattle.rdb_registry.specs.declared.seat.Seat.{Seat}

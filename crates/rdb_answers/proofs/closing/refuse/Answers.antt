@@ -1,10 +1,9 @@
-use Rattle.std.proofs.Common.{◌≡◌, [], refl, sym, ap, subst, ◌∙◌}
+use Rattle.std.proofs.Common.{◌≡◌, [], refl, subst}
 use Rattle.rdb_base.specs.declared.identity.Kind.TheVariants as kind
 use Rattle.rdb_base.specs.declared.identity.Manager.{Manager}
 use Rattle.rdb_base.specs.declared.identity.Phase.TheVariants as phase
 use Rattle.rdb_base.specs.declared.journal.Cause.TheVariants as cause
 use Rattle.rdb_registry.specs.declared.seat.Seat.{Seat}
-use Rattle.rdb_registry.specs.Seats.{seat_of}
 use Rattle.rdb_answers.specs.Ends.{IsMovedOut}
 use Rattle.rdb_answers.specs.Callers.{Runs}
 use Rattle.rdb_answers.proofs.CallLemmas.{has_map, moves_two, running_unmarked}

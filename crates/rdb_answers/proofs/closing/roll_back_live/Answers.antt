@@ -1,4 +1,4 @@
-use Rattle.std.proofs.Common.{◌≡◌, ◌∷◌, [], Some, IsSomeAnd, refl, sym, ap, subst, ◌∙◌}
+use Rattle.std.proofs.Common.{◌≡◌, ◌∷◌, [], refl, sym, subst, ◌∙◌}
 use Rattle.rdb_base.specs.declared.identity.Manager.{Manager}
 use Rattle.rdb_base.specs.declared.identity.Phase.TheVariants as phase
 use Rattle.rdb_base.specs.declared.journal.Cause.TheVariants as cause
@@ -6,15 +6,11 @@ use Rattle.rdb_base.specs.declared.journal.Entry.TheVariants as entry
 use Rattle.rdb_base.specs.declared.journal.Story.{Story}
 use Rattle.rdb_cells.specs.Records.{Record}
 use Rattle.rdb_registry.specs.declared.seat.Seat.{Seat}
-use Rattle.rdb_registry.specs.declared.seat.Transaction.{Transaction}
-use Rattle.rdb_registry.specs.Seats.{seat_of}
-use Rattle.rdb_answers.specs.Callers.{Runs}
 use Rattle.rdb_answers.specs.Ends.{IsClean}
 use Rattle.rdb_answers.proofs.CallLemmas.{moves_two, running_unmarked, on_true, on_false, rolls_plan, rolls_undo, rolls_conn, rolls_transaction, rolls_story}
 use Rattle.rdb_answers.proofs.CommitLemmas.{ends_alike}
 use Rattle.rdb_transactions.specs.Hands.{without_story}
 use Rattle.rdb_transactions.specs.Moves.{Moves, ends_with_story}
-use Rattle.rdb_transactions.specs.Phases.{IsUnmarked}
 use Rattle.rdb_transactions.specs.Records.{on_hand, rolls_back, spare_left}
 use Rattle.rdb_transactions.proofs.EditLemmas.{has_from, same_seat, seat_edited}
 use Rattle.rdb_answers.proofs.closing.roll_back_live.Goals as goal

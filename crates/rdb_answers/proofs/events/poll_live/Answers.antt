@@ -1,4 +1,4 @@
-use Rattle.std.proofs.Common.{◌≡◌, ◌<◌, ℕ, [], length, Some, None, refl, subst}
+use Rattle.std.proofs.Common.{◌<◌, ℕ, [], length, Some, None, refl, subst}
 use Rattle.std.proofs.lemmas.Option.{slice_get_within}
 use Rattle.rdb_base.specs.declared.identity.EventPlace.{EventPlace}
 use Rattle.rdb_history.specs.Watches.{pair_of}

@@ -1,4 +1,4 @@
-use Rattle.std.proofs.Common.{◌≡◌, [], sym, subst}
+use Rattle.std.proofs.Common.{[], subst}
 use Rattle.rdb_base.specs.declared.identity.EventPlace.{EventPlace}
 use Rattle.rdb_answers.proofs.CallLemmas.{place_is}
 use Rattle.rdb_history.specs.Watches.{watch_place}
