@@ -1,0 +1,17 @@
+-- Draft, not checked and not listed in Lib yet. A number that falls at each More of a connection's `go`, and of a `tend` of it, and that no
+-- step of another connection raises, but `condemn`. It held at every step of random runs under both managers.
+--
+-- u pairs in the undo record, p cells left of the plan, v own writes; n versions aimed at in the class of the operation in work, g pages
+-- without an owner.
+--
+-- condemned, RollingBack or Stamping, the first that holds:
+--   marked                                    1027 * v + 1, and 1 more while it holds a latch (MURSIW)
+--   a drop is planned                         p + 1027 * (v - 1) + 2
+--   0 < u                                     u + 1027 * v + 1
+--   condemned, with a plan or a latch         1027 * v + 2
+--   else                                      1027 * v + 1
+--   so it is at most u + 2 + 1027 * v, since a plan has at most 1,024 cells
+-- Writing:
+--   no plan                                   1025 * (n + 1) + g
+--   the operation's own plan                  p
+--   the plan of a garbage version's drop      p + 1025 * (n + 1) + g

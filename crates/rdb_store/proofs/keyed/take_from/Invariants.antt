@@ -1,0 +1,9 @@
+use Rattle.std.proofs.Common.{◌≡◌}
+use Rattle.rdb_cells.specs.Work.{work}
+use Rattle.rdb_store.proofs.IndexLoops.{IsTaking}
+use Rattle.rdb_store.proofs.keyed.take_from.Given as goal
+
+abbrev pub invariant-loop-keyed : goal.invariant-loop-keyed
+invariant-loop-keyed g l =
+    IsTaking g.I.Index.nature g.K.Keys.meaning l.indexes (work g.C.Cells l.fn.cells) (work g.C.Cells l.cells) l.version.number l.keyed-index
+    × (l.cells.cells ≡ l.fn.cells.cells) × (l.cells.class ≡ l.fn.cells.class)

@@ -1,0 +1,7 @@
+use Rattle.rdb_store.specs.Shapes.{schema_class}
+use Rattle.rdb_store.proofs.Framing.{rests_on_class}
+use Rattle.rdb_store.proofs.LawfulClasses.{schema_lawful}
+use Rattle.rdb_store.proofs.laws.classes_rest_on_their_cells.Goals as goal
+
+pub returns : goal.returns
+returns c schema class is served within = rests_on_class (schema_class schema class) (schema_lawful schema class is served within)

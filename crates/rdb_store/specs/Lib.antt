@@ -1,0 +1,14 @@
+pub mod Classes
+pub mod Shapes
+pub mod ClassIndexes
+pub mod Layouts
+pub mod Stored
+pub mod Holds
+pub mod Laws
+pub mod Chains
+pub mod Midway
+pub mod Indexed
+pub mod Taking
+pub mod Plans
+pub mod Lookups
+pub mod Kept
