@@ -9,7 +9,7 @@ use Rattle.rdb_cells.specs.IndexCaller.{Keyed, Listed, StandApart, NeitherLists,
 use Rattle.rdb_cells.specs.Keys.{says, SameVersionCells, RestsOnVersions, IsUnlisted}
 use Rattle.rdb_cells.specs.Links.{AreOf}
 use Rattle.rdb_cells.specs.Work.{Work, reading}
-use Rattle.rdb_cells.proofs.IndexLemmas.{other_lists, still_disjoint, disjoint_back, unlisted_again}
+use Rattle.rdb_cells.proofs.IndexLemmas.{other_lists, still_disjoint, disjoint_back, unlisted_again, taken_again}
 
 -- what a change of an index says of other cells
 pub record Change (one : Keyed) (before after : Work) : Type 0 where
@@ -76,6 +76,7 @@ module _ (one two : Keyed) (first_laws : Laws one) (second_laws : Laws two) (ver
     nodes = l.second_nodes;
     lists = stand_1.second_lists;
     unlisted = unlisted_1;
+    taken = taken_again two.index two.keys (reading w0) (reading w1) second_laws.rests put_first.change.versions version neither.second_takes;
   }
 
   module _ (w2 : Work) (put_second : PutIn two w1 w2 version) where

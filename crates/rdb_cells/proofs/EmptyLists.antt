@@ -54,6 +54,8 @@ module _ (key : List Value) (image : Image) (first_class second_class first seco
       apart = heads_apart;
     };
     first_lacks = lacks_it;
+    first_takes = λ v e. tt;
+    second_takes = λ v e. tt;
     second_lacks = lacks_it;
   }
 

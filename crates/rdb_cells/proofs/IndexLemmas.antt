@@ -10,7 +10,7 @@ use Rattle.rdb_pages.specs.Pages.{zero_cell}
 use Rattle.rdb_cells.specs.declared.kind.Kind.{Kind}
 use Rattle.rdb_cells.specs.declared.kind.Kind.TheVariants.{Free, Row, Version, Object, HashTable, HashEntry, TreeNode, RtreeNode, PatriciaBranch, PatriciaEntry, ClassHead, IndexHead}
 use Rattle.rdb_cells.specs.Images.{Image}
-use Rattle.rdb_cells.specs.Index.{Nature, Lists, KeepsAccount, IsOwn, PlansOnlyOwn, is_of_index, HasIndexCells, RestsOnNodes}
+use Rattle.rdb_cells.specs.Index.{Nature, Lists, TakesKeyOf, KeepsAccount, IsOwn, PlansOnlyOwn, is_of_index, HasIndexCells, RestsOnNodes}
 use Rattle.rdb_cells.specs.Keys.{Meaning, Sayings, says, SaySame, SameVersionCells, RestsOnVersions, IsUnlisted}
 use Rattle.rdb_cells.specs.Links.{IsAmong, AreDisjoint, SameOn}
 use Rattle.rdb_cells.specs.Records.{content, first_of}
@@ -113,6 +113,10 @@ reads_as_before index keys before after listed nodes lists plans below n foreign
   | inl same ↦ ap₂ (λ (o : Option Cell) (image : Image). first_of o (image n)) same below
   | inr own ↦ absurd (foreign own)
 ]
+
+-- where headers and rows say the same, the index takes a version's key as before
+pub taken_again : (index : Nature) (keys : Meaning) (before after : Image) → RestsOnVersions keys → SameVersionCells before after → (version : CellRef) → TakesKeyOf index (says keys before) version → TakesKeyOf index (says keys after) version
+taken_again index keys before after rests same version taken v now = taken v (rests before after same version.number ∙ now)
 
 -- who can take more cells can take fewer
 module _ (w : Work) where

@@ -1,12 +1,13 @@
 -- What an index owes.
 use Rattle.std.specs.Prelude.{◌≡◌, ◌≤◌, ◌*◌, ◌⊎◌, ℕ, List, [], ◌∷◌, length, Some, Bool, true, false, Contains, IsPermutation}
+use Rattle.rdb_base.specs.declared.value.Value.{Value}
 use Rattle.rdb_pages.specs.declared.cell.CellRef.{CellRef}
 use Rattle.rdb_pages.specs.Pages.{zero_cell}
 use Rattle.rdb_cells.specs.declared.kind.Kind.{Kind}
 use Rattle.rdb_cells.specs.declared.kind.Kind.TheVariants as kind
 use Rattle.rdb_cells.specs.HeadFormat.{index_head_cell, empty_index_head}
 use Rattle.rdb_cells.specs.Images.{Image}
-use Rattle.rdb_cells.specs.Keys.{Meaning, Sayings, says, SaySame, IsUnlisted, ListsVersions}
+use Rattle.rdb_cells.specs.Keys.{Version, Meaning, Sayings, says, SaySame, IsUnlisted, ListsVersions}
 use Rattle.rdb_cells.specs.Links.{IsAmong, AreOf, AreOnce, SameOn}
 use Rattle.rdb_cells.specs.Records.{content}
 use Rattle.rdb_cells.specs.Words.{HasKind}
@@ -26,12 +27,14 @@ is_of_index _ = false
 abbrev pub IsIndexNode : Image → ℕ → Type 0
 IsIndexNode image n = (of : Kind) × (is_of_index of ≡ true) × HasKind image of n
 
--- What an index is: its class, the number of its head, the most free cells that a `put` takes; and the relation that, by what
--- the keys say, in this image it has its shape, lists these versions, and its nodes beside the head are these cells.
+-- What an index is: its class, the number of its head, the most free cells that a `put` takes, and the keys that it takes; and
+-- the relation that, by what the keys say, in this image it has its shape, lists these versions, and its nodes beside the head
+-- are these cells.
 pub record Nature : Type 1 where
   pub class : ℕ
   pub head : ℕ
   pub part : ℕ
+  pub Takes : List Value → Type 0
   pub Stands : Sayings → Image → List CellRef → List ℕ → Type 0
 
 -- by its keys the index lists these versions in these nodes
@@ -42,12 +45,17 @@ Lists index keys image listed nodes = index.Stands (says keys image) image liste
 abbrev pub WhateverListed : Nature → Meaning → Image → (List CellRef → List ℕ → Type 0) → Type 0
 WhateverListed index keys image Holds = (listed : List CellRef) (nodes : List ℕ) → Lists index keys image listed nodes → Holds listed nodes
 
--- the index stands, and the version has a key and isn't listed yet
+-- the index takes the version's key, if it has one
+abbrev pub TakesKeyOf : Nature → Sayings → CellRef → Type 0
+TakesKeyOf index said version = (v : Version) → said.version_of version.number ≡ Some v → index.Takes v.key
+
+-- the index stands, and the version has a key that it takes, and isn't listed yet
 pub record LacksVersion (index : Nature) (keys : Meaning) (image : Image) (version : CellRef) : Type 0 where
   pub listed : List CellRef
   pub nodes : List ℕ
   pub lists : Lists index keys image listed nodes
   pub unlisted : IsUnlisted (says keys image) listed version
+  pub taken : TakesKeyOf index (says keys image) version
 
 -- the index stands, and the version is listed
 pub record HasVersion (index : Nature) (keys : Meaning) (image : Image) (version : CellRef) : Type 0 where

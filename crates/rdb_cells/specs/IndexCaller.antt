@@ -2,7 +2,7 @@
 use Rattle.std.specs.Prelude.{ℕ, List, ◌∷◌, IsPermutation}
 use Rattle.rdb_pages.specs.declared.cell.CellRef.{CellRef}
 use Rattle.rdb_cells.specs.Images.{Image}
-use Rattle.rdb_cells.specs.Index.{Nature, Lists}
+use Rattle.rdb_cells.specs.Index.{Nature, Lists, TakesKeyOf}
 use Rattle.rdb_cells.specs.Keys.{Meaning, says, IsUnlisted}
 use Rattle.rdb_cells.specs.Links.{AreDisjoint}
 
@@ -27,11 +27,13 @@ pub record StandApart (first second : Keyed) (image : Image) (listed : Listed) :
   pub second_lists : Lists second.index second.keys image listed.second listed.second_nodes
   pub apart : AreDisjoint (first.index.head ∷ listed.first_nodes) (second.index.head ∷ listed.second_nodes)
 
--- the two stand apart, and neither lists the version, which has a key for each
+-- the two stand apart, and neither lists the version, which has a key for each that it takes
 pub record NeitherLists (first second : Keyed) (image : Image) (version : CellRef) (listed : Listed) : Type 0 where
   pub stand : StandApart first second image listed
   pub first_lacks : IsUnlisted (says first.keys image) listed.first version
   pub second_lacks : IsUnlisted (says second.keys image) listed.second version
+  pub first_takes : TakesKeyOf first.index (says first.keys image) version
+  pub second_takes : TakesKeyOf second.index (says second.keys image) version
 
 -- the two stand apart, the first lists what it listed before, and the second the version besides
 pub record CameToSecond (first second : Keyed) (image : Image) (version : CellRef) (listed : Listed) : Type 0 where

@@ -41,7 +41,7 @@ pub record IsPlainList (head : ℕ) (said : Sayings) (image : Image) (listed : L
   pub versions : ListsVersions said listed
 
 abbrev pub plain_nature : ℕ → ℕ → Nature
-plain_nature class head = record { class = class; head = head; part = 1; Stands = IsPlainList head }
+plain_nature class head = record { class = class; head = head; part = 1; Takes = λ key. Unit {0}; Stands = IsPlainList head }
 
 -- the version has an entry in one of the cells from this number on
 pub record HasEntry (image : Image) (first : ℕ) (version : CellRef) : Type 0 where

@@ -41,6 +41,7 @@ lacks_it key image class head version cell empty held is_header = record {
     itself = nothing_there version;
     otherwise = λ r within. absurd (nothing_there r within);
   };
+  taken = λ v e. tt;
 }
 
 at_least_once : (rs : List CellRef) (r : CellRef) → Contains rs r → 1 ≤ times_listed rs r

@@ -132,4 +132,4 @@ pub record IsHash (head : ℕ) (said : Sayings) (image : Image) (listed : List C
   pub versions : ListsVersions said listed
 
 abbrev pub hash_nature : ℕ → ℕ → Nature
-hash_nature class head = record { class = class; head = head; part = hash_part; Stands = IsHash head }
+hash_nature class head = record { class = class; head = head; part = hash_part; Takes = λ key. Unit {0}; Stands = IsHash head }

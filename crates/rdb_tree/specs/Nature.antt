@@ -48,4 +48,4 @@ pub record IsRootedAt (said : Sayings) (image : Image) (at : CellRef) (tree : Tr
   pub levels : levels_of tree ≤ most_levels
 
 abbrev pub tree_nature : ℕ → ℕ → Nature
-tree_nature of head = record { class = of; head = head; part = tree_part; Stands = IsTree head }
+tree_nature of head = record { class = of; head = head; part = tree_part; Takes = λ key. Unit {0}; Stands = IsTree head }
