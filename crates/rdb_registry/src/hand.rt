@@ -1,14 +1,14 @@
 //! What a connection has in hand: the part of its record that its own steps, and those of who repairs it, change freely. It touches its
 //! own lists alone.
 //!
-//! | Field         | What                                                                                                  |
-//! |---------------|-------------------------------------------------------------------------------------------------------|
-//! | phase, cause  | what it is doing, and why it rolls back                                                               |
-//! | undo          | what the cells held that its unfinished work has written                                              |
-//! | work, plan    | the operation in work with its encoded row, and what is left of the plan that is being written        |
-//! | done          | the operations of its open transaction with their answers                                             |
-//! | own           | the objects that its open transaction wrote                                                           |
-//! | subscriptions | the events that it watches, and how far it has been told of each                                      |
+//! | Field         | What                                                                                          |
+//! |---------------|-----------------------------------------------------------------------------------------------|
+//! | phase, cause  | what it is doing, and why it rolls back                                                       |
+//! | undo          | what the cells held that its unfinished work has written                                      |
+//! | work, plan    | the operation in work with its row and the version that it puts, and what is left of the plan |
+//! | done          | the operations of its open transaction with their answers                                     |
+//! | own           | the objects that its open transaction wrote                                                   |
+//! | subscriptions | the events that it watches, and how far it has been told of each                              |
 
 ghost use Rattle.std.specs.Prelude.{◌≡◌, ◌≤◌, [], OnOk};
 ghost use Rattle.rdb_registry.specs.Hands.{IsClear, IsReady, undo_places};
@@ -21,16 +21,19 @@ use rdb_base::list::{List, NoMemory};
 use rdb_base::operation::{Op, Reply};
 use rdb_base::ready::Ready;
 use rdb_cells::{HasPairs, MAX_PLAN, Plan, Undo};
+use rdb_pages::CellRef;
 use std::alloc::Global;
 
 /// How many places a connection's undo record has: one for each cell of a plan.
 pub const UNDO_PLACES: usize = MAX_PLAN;
 
-/// An operation in work, and its row as bytes: none for a deletion.
+/// An operation in work, and its row as bytes: none for a deletion. `puts` is the header of the version that the plan at hand puts: none
+/// before its own plan is made, also while a plan at hand is that of another version's drop.
 #[derive(Debug, Drop)]
 pub struct Work {
     pub op: Op,
     pub bytes: Bytes,
+    pub puts: Option<CellRef>,
 }
 
 /// An event that a connection watches, and the last one of its kind that it was told.

@@ -42,6 +42,7 @@ fn seat_of(alloc: Global, row: &Row) -> Result<Seat, NoMemory> {
         Some(Work {
             op: Op::Del { class: 0, id: 1 },
             bytes: List::new(alloc),
+            puts: None,
         })
     } else {
         None
