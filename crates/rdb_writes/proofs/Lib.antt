@@ -1,0 +1,4 @@
+pub mod RecordLemmas
+pub mod WorkLemmas
+pub mod PlanLemmas
+pub mod StepLemmas
