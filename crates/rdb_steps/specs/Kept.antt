@@ -1,69 +1,108 @@
--- Draft, not checked and not listed in Lib yet. What every step keeps of cells, latches, plans and undo records. Nothing here speaks of a
--- journal.
-use Rattle.std.specs.Prelude.{◌≡◌, ◌<◌, ◌≤◌, ◌+◌, ◌⊎◌, ◌&&◌, ◌∣∣◌, ℕ, List, [], Bool, true, false, not, length, count_by, Option, Some, None, is_some, is_none, IsSome}
-use Rattle.rdb_base.specs.declared.identity.Manager.TheVariants as manager
+-- What every step keeps of cells, latches, plans, undo records and own writes. Nothing here speaks of a journal. It is said of two lists of
+-- versions: the settled ones, which are there once all unfinished work is taken back, and those aimed at, which are there once the plan of
+-- each class's holder is written.
+use Rattle.std.specs.Prelude.{◌≡◌, ◌≢◌, ◌<◌, ◌≤◌, ◌⊎◌, ◌&&◌, ◌||◌, ◌==◌, ℕ, List, [], Bool, true, false, not, length, slice_index, Option, Some, None, is_some, is_none, option_and_then}
+use Rattle.std.specs.Option.{option_map}
+use Rattle.rdb_base.specs.declared.identity.Manager.{Manager}
+use Rattle.rdb_base.specs.declared.identity.Phase.{Phase}
 use Rattle.rdb_base.specs.declared.identity.Phase.TheVariants as phase
-use Rattle.rdb_base.specs.declared.identity.Stamp.TheVariants as stamp
-use Rattle.rdb_cells.specs.Records.{names, max_plan}
+use Rattle.rdb_base.specs.declared.identity.TxId.{TxId}
+use Rattle.rdb_schema.specs.declared.schema.Schema.{Schema}
+use Rattle.rdb_cells.specs.Images.{Image}
+use Rattle.rdb_registry.specs.declared.hand.Hand.{Hand}
 use Rattle.rdb_registry.specs.declared.seat.Seat.{Seat}
+use Rattle.rdb_registry.specs.declared.seat.Transaction.{Transaction}
+use Rattle.rdb_registry.specs.OwnWrites.{header_of}
 use Rattle.rdb_registry.specs.Seats.{EachSeat, HoldsLatch}
-use Rattle.rdb_sight.specs.Versions.{Object, Versions, objects_in}
-use Rattle.rdb_store.specs.Classes.{ClassNature}
+use Rattle.rdb_sight.specs.Versions.{Version, Object, Versions, objects_in, chain_in, chain_of, own_version}
 use Rattle.rdb_store.specs.Holds.{Holds}
-use Rattle.rdb_steps.specs.Ground.{Ground, classes, settled_image, aimed_image}
+use Rattle.rdb_store.specs.Shapes.{schema_class}
+use Rattle.rdb_store.specs.Stored.{HasVersion, ref_of}
+use Rattle.rdb_writes.specs.Grounds.{Ground, AreWorks, settled_image, aimed_image}
+use Rattle.rdb_writes.specs.Steps.{spans_one_plan}
+
+-- in this image the class's cells hold these objects
+abbrev pub HoldsClass : Schema → Ground → Image → ℕ → List Object → Type 0
+HoldsClass schema g image class objects = Holds (schema_class schema class) image g.class_of objects
 
 -- each class's cells, settled, hold these versions
-abbrev pub Settles : (ℕ → ClassNature) → ℕ → Ground → Versions → Type 0
-Settles nature count g versions = (class : ℕ) → class < count →
-    Holds (nature class) (settled_image g) (classes g) (objects_in versions class)
+pub record Stands (schema : Schema) (g : Ground) (settled : Versions) : Type 0 where
+  pub count : length settled ≡ length schema.classes
+  pub each : (class : ℕ) → class < length schema.classes → HoldsClass schema g (settled_image g) class (objects_in settled class)
+
+-- nothing is left of the plan
+abbrev pub has_no_plan : Hand → Bool
+has_no_plan hand = length hand.plan.pairs == 0
+
+-- the drop of an own version is planned: a plan is left that no operation in work asked for
+abbrev pub is_dropping : Hand → Bool
+is_dropping hand = not (has_no_plan hand) && is_none hand.work
+
+abbrev pub is_rolling_back : Phase → Bool
+is_rolling_back phase.RollingBack = true
+is_rolling_back _ = false
+
+-- its work is to be taken back cell by cell: it was condemned, or rolls back under MURSIW
+abbrev pub takes_back : Manager → Seat → Bool
+takes_back manager seat = is_some seat.condemned || (is_rolling_back seat.hand.phase && not (spans_one_plan manager))
+
+-- the versions that a connection aims at are spoken of
+abbrev pub aims : Manager → Seat → Bool
+aims manager seat = is_dropping seat.hand || not (takes_back manager seat)
 
 -- the cells of a class whose latch a connection holds will hold these objects
-abbrev pub Aims : (ℕ → ClassNature) → Ground → Seat → ℕ → List Object → Type 0
-Aims nature g seat class objects = Holds (nature class) (aimed_image g seat) (classes g) objects
+abbrev pub AimsAt : Schema → Ground → Seat → ℕ → List Object → Type 0
+AimsAt schema g seat class objects = HoldsClass schema g (aimed_image g seat.hand) class objects
 
--- a drop is planned: a plan is left that no operation in work made
-abbrev pub is_dropping : Seat → Bool
-is_dropping seat = not (length seat.hand.plan.pairs == 0) && is_none seat.hand.work
+-- each connection whose aims are spoken of aims at these versions in its classes
+abbrev pub Aims : Schema → Manager → Ground → Versions → Type 0
+Aims schema manager g aimed = EachSeat (λ slot seat. aims manager seat ≡ true → (class : ℕ) → class < length schema.classes →
+    HoldsLatch seat class → AimsAt schema g seat class (objects_in aimed class)) g.seats
 
--- under MURSIW a roll-back takes cells back, and speaks of no versions aimed at
-abbrev pub takes_back : Ground → Seat → Bool
-takes_back g seat = is_mursiw g.manager && is_rolling_back seat.hand.phase
+-- no connection's aims are spoken of in the class
+abbrev pub IsUnaimed : Manager → Ground → ℕ → Type 0
+IsUnaimed manager g class = EachSeat (λ slot seat. HoldsLatch seat class → aims manager seat ≡ false) g.seats
 
--- the versions aimed at are spoken of: the connection is neither condemned nor taking back, or a drop is planned
-abbrev pub aims : Ground → Seat → Bool
-aims g seat = is_dropping seat ∣∣ (is_none seat.condemned && not (takes_back g seat))
+-- there the versions aimed at are the settled ones
+abbrev pub RestIsSettled : Manager → Ground → Versions → Versions → Type 0
+RestIsSettled manager g settled aimed = (class : ℕ) → IsUnaimed manager g class → objects_in aimed class ≡ objects_in settled class
 
--- in each class whose latch a connection holds, where they are spoken of, its cells will hold some objects
-abbrev pub AimsSomewhere : (ℕ → ClassNature) → Ground → Seat → Type 0
-AimsSomewhere nature g seat = aims g seat ≡ true → (class : ℕ) → HoldsLatch seat class →
-    (objects : List Object) × Aims nature g seat class objects
+-- the open transaction of a record, as versions name it
+abbrev pub tx_of : Seat → Transaction → TxId
+tx_of seat transaction = record { conn = seat.conn; number = transaction.number }
 
--- the cells of a connection's undo record and plan are of classes whose latch it holds
-abbrev pub WorksInOwnClasses : Ground → Seat → Type 0
-WorksInOwnClasses g seat = (n : ℕ) → (names seat.hand.undo.pairs n ≡ true) ⊎ (names seat.hand.plan.pairs n ≡ true) →
-    (class : ℕ) × (classes g n ≡ Some class) × HoldsLatch seat class
+-- the own writes of a record are exactly the versions of its open transaction, with their headers
+abbrev pub Owns : Seat → Versions → Type 0
+Owns seat versions = (transaction : Transaction) → seat.transaction ≡ Some transaction → (class id : ℕ) →
+    header_of seat.hand.own.items (class, id) ≡ option_map ref_of (own_version (tx_of seat transaction) (chain_in versions class id))
 
--- a plan is no longer than it may be, and the undo record has a place for each of its cells that isn't logged
-pub record HasPlaces (seat : Seat) : Type 0 where
-  pub plan : length seat.hand.plan.pairs ≤ max_plan
-  pub undo :
-      length seat.hand.undo.pairs + count_by (λ p. not (names seat.hand.undo.pairs p.at.number)) seat.hand.plan.pairs
-      ≤ seat.hand.undo.room
+abbrev pub is_marked : Seat → Bool
+is_marked seat = is_some (option_and_then (λ t. t.mark) seat.transaction)
 
--- no work is unfinished: no latch, plan, pair or operation in work
-pub record IsAtRest (seat : Seat) : Type 0 where
-  pub latches : seat.latches ≡ 0
-  pub plan : seat.hand.plan.pairs ≡ []
-  pub undo : seat.hand.undo.pairs ≡ []
-  pub work : seat.hand.work ≡ None
+-- its own versions are settled: always under MVCC, and under MURSIW once it is marked, or all is taken back
+abbrev pub owns_settled : Manager → Seat → Bool
+owns_settled manager seat = spans_one_plan manager || (is_marked seat || (takes_back manager seat && (length seat.hand.undo.pairs == 0)))
 
--- What a record keeps by its phase. A condemned one keeps its phase while it is repaired, and then also has what a repair plans. The cases
--- (each held at every step of random runs):
---   Idle: at rest, without a transaction, an operation, an own write or a cause
---   Running ReadOnly: at rest, without an own write
---   Running ReadWrite: no operation in work, and no plan unless condemned; under MVCC at rest unless condemned; under MURSIW, unless
---     condemned, every latch
---   Writing: a writer's transaction; unless condemned an operation in work, and under MVCC the latch of its class alone
---   RollingBack: a writer's transaction and a cause, no operation in work; under MVCC one latch while a drop is planned, and else none
---   Stamping: marked, neither plan nor pair nor operation in work; under MVCC no latch
--- A transaction is marked exactly in Stamping, and under MVCC a record has one latch at most.
+-- the own writes of each record are those of its transaction's versions that are settled; of a live writer under MURSIW, outside a plan,
+-- those of the versions that it has made
+pub record OwnAre (manager : Manager) (seat : Seat) (settled aimed : Versions) : Type 0 where
+  pub settled : owns_settled manager seat ≡ true → Owns seat settled
+  pub made : owns_settled manager seat ≡ false → takes_back manager seat ≡ false → has_no_plan seat.hand ≡ true → Owns seat aimed
+
+-- no version has a serial above those that were drawn, and no object an id above those of its class
+pub record Drawn (serials : ℕ) (ids : List ℕ) (versions : Versions) : Type 0 where
+  pub serials : (class : ℕ) → (v : Version) → HasVersion (objects_in versions class) v → v.serial ≤ serials
+  pub ids : (class id : ℕ) → chain_in versions class id ≢ [] → id ≤ slice_index ids class
+
+-- The cells and the work of each connection agree with the two lists of versions.
+pub record Agrees (schema : Schema) (manager : Manager) (g : Ground) (settled aimed : Versions) : Type 0 where
+  pub works : AreWorks g
+  pub stands : Stands schema g settled
+  pub aims : Aims schema manager g aimed
+  pub rest : RestIsSettled manager g settled aimed
+
+-- What holds of the cells and the records at every state: they agree with the two lists, and each record's own writes are those of its
+-- transaction's versions.
+pub record IsKept (schema : Schema) (manager : Manager) (g : Ground) (settled aimed : Versions) : Type 0 where
+  pub agrees : Agrees schema manager g settled aimed
+  pub own : EachSeat (λ slot seat. OwnAre manager seat settled aimed) g.seats

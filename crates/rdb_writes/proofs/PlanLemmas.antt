@@ -1,9 +1,8 @@
 -- A plan by its newest pair, and the places of an undo record.
-use Rattle.std.proofs.Common.{◌≡◌, ◌≢◌, ◌||◌, ◌==◌, ◌+◌, ◌≤◌, ◌<◌, ◌⊎◌, zero, suc, ℕ, List, [], ◌∷◌, ◌++◌, length, get_or, not, Option, Some, Bool, true, false, cond, refl, sym, ap, subst, ◌∙◌, arith, inl, inr, eq-eqb}
+use Rattle.std.proofs.Common.{◌≡◌, ◌≢◌, ◌||◌, ◌==◌, ◌+◌, ◌≤◌, ◌<◌, ◌⊎◌, zero, suc, ℕ, List, [], ◌∷◌, ◌++◌, length, get_or, not, Option, Some, IsSome, IsSomeAnd, slice_get, Bool, true, false, cond, refl, sym, ap, subst, ◌∙◌, arith, inl, inr, eq-eqb}
 use Rattle.std.proofs.lemmas.Bool.{ne_eqb, eqb-true}
-use Rattle.std.proofs.lemmas.List.{length-append}
-use Rattle.std.proofs.lemmas.List.Sums.{sum_by-append}
-use Rattle.std.specs.List.{count_by}
+use Rattle.std.proofs.lemmas.List.Sums.{sum_by-append, sum_by-cons}
+use Rattle.std.specs.List.{count_by, sum_by}
 use Rattle.rdb_pages.specs.declared.cell.Cell.{Cell}
 use Rattle.rdb_cells.specs.declared.pairs.Pair.{Pair}
 use Rattle.rdb_cells.specs.Images.{Image, Writes}
@@ -48,17 +47,22 @@ last_unnamed (q ∷ ps) p apart =
     let different : q.at.number ≢ p.at.number = λ same. different-head q.at.number (numbers_of (ps ++ p ∷ [])) (length ps) apart (omega arith) (last_number ps p ∙ sym same) in
     rw (ne_eqb q.at.number p.at.number different) (last_unnamed ps p (different-tail q.at.number (numbers_of (ps ++ p ∷ [])) apart))
 
+pub longer_by_one : (ps : List Pair) (p : Pair) → length (ps ++ p ∷ []) ≡ suc (length ps)
+longer_by_one [] p = refl
+longer_by_one (q ∷ ps) p = ap suc (longer_by_one ps p)
+
 -- how many of the pairs' cells another list lacks
-pub lacking : List Pair → List Pair → ℕ
+abbrev pub lacking : List Pair → List Pair → ℕ
 lacking logged plan = count_by (λ (p : Pair). not (names logged p.at.number)) plan
 
-one_lacking : List Pair → Pair → ℕ
+abbrev one_lacking : List Pair → Pair → ℕ
 one_lacking logged p = cond (not (names logged p.at.number)) 1 0
 
 lacking_last : (logged plan : List Pair) (p : Pair) → lacking logged (plan ++ p ∷ []) ≡ lacking logged plan + one_lacking logged p
 lacking_last logged plan p =
-    let sums : lacking logged (plan ++ p ∷ []) ≡ lacking logged plan + lacking logged (p ∷ []) = sum_by-append (λ (q : Pair). cond (not (names logged q.at.number)) 1 0) plan (p ∷ []) in
-    sums ∙ ap (λ (k : ℕ). lacking logged plan + k) (omega arith)
+    let sums = sum_by-append (one_lacking logged) plan (p ∷ []) in
+    let single = sum_by-cons (one_lacking logged) p [] in
+    omega (arith, sums, single)
 
 -- one more pair is logged, of a cell that the plan lacks
 lacking_more : (logged plan : List Pair) (p : Pair) → names plan p.at.number ≡ false → lacking (logged ++ p ∷ []) plan ≡ lacking logged plan
@@ -70,7 +74,9 @@ lacking_more logged (q ∷ plan) p none =
           let other : p.at.number ≢ q.at.number = λ same. (let yes : (q.at.number == p.at.number) ≡ true = eq-eqb q.at.number p.at.number (sym same) in cc) in
           let here = named_more logged p q.at.number other in
           let rest = lacking_more logged plan p h in
-          λ i. cond (not (here i)) (1 + rest i) (rest i)
+          sum_by-cons (one_lacking (logged ++ p ∷ [])) q plan
+          ∙ (λ i. cond (not (here i)) 1 0 + rest i)
+          ∙ sym (sum_by-cons (one_lacking logged) q plan)
     ]) refl none
 
 module _ (undo now : Record) (image : Image) (rest : List Pair) (next : Pair) (logs : Logs undo now image next.at.number) (once : AreDifferent (numbers_of (rest ++ next ∷ []))) where
@@ -83,17 +89,17 @@ module _ (undo now : Record) (image : Image) (rest : List Pair) (next : Pair) (l
     | inr unnamed ↦
         let made = logs.first unnamed in
         let p = made.0 in
-        let one : one_lacking undo.pairs next ≡ 1 = ap (λ (b : Bool). cond (not b) 1 0) unnamed in
+        let one : one_lacking undo.pairs next ≡ 1 = ap (λ (b : Bool). cond {A = ℕ} (not b) 1 0) unnamed in
         let last = lacking_last undo.pairs rest next in
         let more = lacking_more undo.pairs rest p (ap (names rest) made.1 ∙ last_unnamed rest next once) in
-        let longer : length (undo.pairs ++ p ∷ []) ≡ length undo.pairs + 1 = length-append in
+        let longer = longer_by_one undo.pairs p in
         subst (λ (r : Record). length r.pairs + lacking r.pairs rest ≤ r.room) (sym made.3) (omega (arith, enough, one, last, more, longer))
   ]
 
   -- there is a place to log the next
   pub place_for_next : length undo.pairs + lacking undo.pairs (rest ++ next ∷ []) ≤ undo.room → names undo.pairs next.at.number ≡ false → length undo.pairs < undo.room
   place_for_next enough unnamed =
-      let one : one_lacking undo.pairs next ≡ 1 = ap (λ (b : Bool). cond (not b) 1 0) unnamed in
+      let one : one_lacking undo.pairs next ≡ 1 = ap (λ (b : Bool). cond {A = ℕ} (not b) 1 0) unnamed in
       let last = lacking_last undo.pairs rest next in
       omega (arith, enough, one, last)
 
@@ -110,3 +116,9 @@ works_on_less image_before image_after before after next w n (inl logged) = elim
         | inr same ↦ inr (ap (λ (r : Record). names r.pairs n) w.plan ∙ subst (λ (m : ℕ). names (after.plan.pairs ++ next ∷ []) m ≡ true) (sym made.1 ∙ same) (named_last after.plan.pairs next))
       ]
 ]
+
+-- each pair of cells is one of a cell
+pub pair_at : (image : Image) (ps : List Pair) (i : ℕ) → ((n : ℕ) → names ps n ≡ true → IsSome (image n)) → i < length ps → IsSomeAnd (slice_get ps i) (λ p. IsSome (image p.at.number))
+pair_at image [] i cells within = absurd (omega (arith, within))
+pair_at image (p ∷ ps) zero cells within = cells p.at.number (rw (eq-eqb p.at.number p.at.number refl) refl)
+pair_at image (p ∷ ps) (suc i) cells within = pair_at image ps i (λ n named. cells n (any_right (p.at.number == n) (names ps n) named)) (omega (arith, within))

@@ -62,18 +62,18 @@ none_names [] n each = refl
 none_names (None ∷ os) n each = none_names os n (λ i s at. each (suc i) s at)
 none_names (Some seat ∷ os) n each = rw (each zero seat refl) (none_names os n (λ i s at. each (suc i) s at))
 
-module _ (seats : Seats) (slot : ℕ) (seat : Seat) (at : seat_in seats slot ≡ Some seat) where
-  -- no other undo record has a pair of the cell
-  pub OthersLack : ℕ → Type 0
-  OthersLack n = (i : ℕ) (s : Seat) → i ≢ slot → seat_in seats i ≡ Some s → names s.hand.undo.pairs n ≡ false
+-- no undo record in another slot has a pair of the cell
+abbrev pub OthersLack : Seats → ℕ → ℕ → Type 0
+OthersLack seats slot n = (i : ℕ) (s : Seat) → i ≢ slot → seat_in seats i ≡ Some s → names s.hand.undo.pairs n ≡ false
 
-  lacks : (n : ℕ) → OthersLack n → (s : Seat) → IsOther seats slot s → names s.hand.undo.pairs n ≡ false
+module _ (seats : Seats) (slot : ℕ) (seat : Seat) (at : seat_in seats slot ≡ Some seat) where
+  lacks : (n : ℕ) → OthersLack seats slot n → (s : Seat) → IsOther seats slot s → names s.hand.undo.pairs n ≡ false
   lacks n others s is = others is.place s is.other is.at
 
-  none_in_front : (n : ℕ) → OthersLack n → (a : Around seats slot seat) → NoneNames (undo_records a.front) n
+  none_in_front : (n : ℕ) → OthersLack seats slot n → (a : Around seats slot seat) → NoneNames (undo_records a.front) n
   none_in_front n others a = none_names a.front n (λ i s at. lacks n others s (a.in_front i s at))
 
-  none_behind : (n : ℕ) → OthersLack n → (a : Around seats slot seat) → NoneNames (undo_records a.back) n
+  none_behind : (n : ℕ) → OthersLack seats slot n → (a : Around seats slot seat) → NoneNames (undo_records a.back) n
   none_behind n others a = none_names a.back n (λ i s at. lacks n others s (a.behind i s at))
 
   records_are : (a : Around seats slot seat) → undo_records seats ≡ undo_records a.front ++ seat.hand.undo.pairs ∷ undo_records a.back
@@ -83,7 +83,7 @@ module _ (seats : Seats) (slot : ℕ) (seat : Seat) (at : seat_in seats slot ≡
   records_now a x = ap undo_records (a.changed x) ∙ records-append a.front (x ∷ a.back)
 
   -- a step on the record and one cell, which keeps what others settle
-  pub settled_kept : (x : Option Seat) (before after : Image) (m : ℕ) → OthersLack m → KeepsSettled seat.hand.undo.pairs (logged_in x) before after m → SameImage (settled (undo_records (set seats slot x)) after) (settled (undo_records seats) before)
+  pub settled_kept : (x : Option Seat) (before after : Image) (m : ℕ) → OthersLack seats slot m → KeepsSettled seat.hand.undo.pairs (logged_in x) before after m → SameImage (settled (undo_records (set seats slot x)) after) (settled (undo_records seats) before)
   settled_kept x before after m others keeps n =
       let a = around seats slot seat at in
       ap (λ (rs : List (List Pair)). settled rs after n) (records_now a x)
@@ -107,7 +107,7 @@ module _ (seats : Seats) (slot : ℕ) (seat : Seat) (at : seat_in seats slot ≡
       ∙ sym (ap (λ (rs : List (List Pair)). settled rs before n) (records_are a))
 
   -- a cell that no other record has is settled by this one
-  pub settled_own : (image : Image) (n : ℕ) → OthersLack n → settled (undo_records seats) image n ≡ taken_back seat.hand.undo.pairs image n
+  pub settled_own : (image : Image) (n : ℕ) → OthersLack seats slot n → settled (undo_records seats) image n ≡ taken_back seat.hand.undo.pairs image n
   settled_own image n others =
       let a = around seats slot seat at in
       let front = undo_records a.front in

@@ -1,22 +1,21 @@
 -- What the steps on one connection's hand leave of the settled image, of the image aimed at, and of each connection's work.
-use Rattle.std.proofs.Common.{◌≡◌, ◌≢◌, ◌⊎◌, ◌==◌, ◌&&◌, ◌+◌, ◌≤◌, ◌∷◌, ◌++◌, ℕ, List, [], length, set, Option, Some, None, Bool, true, false, cond, option_map, refl, sym, ap, subst, ◌∙◌, arith, inl, inr, eqb-true}
-use Rattle.std.proofs.lemmas.List.{length-append}
+use Rattle.std.proofs.Common.{◌≡◌, ◌≢◌, ◌⊎◌, ◌==◌, ◌&&◌, ◌+◌, ◌≤◌, ◌∷◌, ◌++◌, ℕ, List, [], length, set, Option, Some, None, IsSomeAnd, Bool, true, false, cond, option_map, refl, sym, ap, subst, ◌∙◌, arith, inl, inr, eqb-true}
 use Rattle.rdb_base.specs.declared.identity.ConnId.{ConnId}
 use Rattle.rdb_base.specs.declared.identity.Manager.{Manager}
 use Rattle.rdb_cells.specs.declared.pairs.Pair.{Pair}
 use Rattle.rdb_cells.specs.Images.{Image, SameImage, Writes}
-use Rattle.rdb_cells.specs.Records.{Record, names, planned, settled, taken_back, KeepsSettled}
+use Rattle.rdb_cells.specs.Records.{Record, names, planned, settled, taken_back, KeepsSettled, TakesBack}
 use Rattle.rdb_cells.proofs.SettledLemmas.{true_or_false}
 use Rattle.rdb_registry.specs.declared.hand.Hand.{Hand}
 use Rattle.rdb_registry.specs.declared.seat.Seat.{Seat}
 use Rattle.rdb_registry.specs.Seats.{Seats, seat_in, seat_of, with_hand}
-use Rattle.rdb_registry.proofs.SlotLemmas.{seat_in_other}
+use Rattle.rdb_registry.proofs.SlotLemmas.{seat_in_other, some_and_of}
 use Rattle.rdb_registry.proofs.RecordLaws.{changed_here}
 use Rattle.rdb_writes.specs.Grounds.{Ground, IsLatched, WorksOn, HasPlaces, IsWork, AreWorks, HaveOneHolder, settled_image, aimed_image, undo_records}
 use Rattle.rdb_writes.specs.Steps.{spans_one_plan, is_written, ends, ended, forgetting, Works, WritesPlanned, Reaches, WritesNext, TakesNewestBack}
 use Rattle.rdb_writes.proofs.RecordLemmas.{OthersLack, settled_kept, settled_elsewhere, settled_own}
 use Rattle.rdb_writes.proofs.WorkLemmas.{in_its_slot, others_lack, unlatched, works_kept}
-use Rattle.rdb_writes.proofs.PlanLemmas.{named_left, named_last, works_on_less}
+use Rattle.rdb_writes.proofs.PlanLemmas.{named_left, named_last, longer_by_one, works_on_less}
 
 and_true : (a b : Bool) → (a && b) ≡ true → (a ≡ true) × (b ≡ true)
 and_true true b e = (refl, e)
@@ -48,10 +47,10 @@ module _ (before after : Ground) (c : ConnId) (seat : Seat) (hand : Hand) (held 
       ap (λ (seats : Seats). seat_in seats i) records
       ∙ seat_in_other before.seats c.slot i (option_map (λ (s : Seat). record s { hand = hand }) (seat_in before.seats c.slot)) other
 
-  pub lack_before : (n : ℕ) → IsLatched before seat n → OthersLack before.seats c.slot seat at n
+  pub lack_before : (n : ℕ) → IsLatched before seat n → OthersLack before.seats c.slot n
   lack_before n latched = others_lack before one works c.slot seat at n latched
 
-  pub lack_now : (n : ℕ) → IsLatched before seat n → OthersLack after.seats c.slot now at_now n
+  pub lack_now : (n : ℕ) → IsLatched before seat n → OthersLack after.seats c.slot n
   lack_now n latched i s other there = lack_before n latched i s other (sym (others_stay i other) ∙ there)
 
   -- a step on one cell of its classes that keeps what others settle
@@ -180,7 +179,7 @@ module _ (before after : Ground) (c : ConnId) (seat : Seat) (hand : Hand) (newes
       let was = mine.places in
       let room : seat.hand.undo.room ≡ hand.undo.room = ap (λ (r : Record). r.room) shorter in
       let longer : length seat.hand.undo.pairs ≡ length (hand.undo.pairs ++ newest ∷ []) = ap (λ (r : Record). length r.pairs) shorter in
-      let fewer : length (hand.undo.pairs ++ newest ∷ []) ≡ length hand.undo.pairs + 1 = (rw length-append refl) in
+      let fewer = longer_by_one hand.undo.pairs newest in
       subst (λ (r : Record). HasPlaces (record hand { plan = r })) (sym plan) (omega (arith, was, room, longer, fewer))
 
   pub back_works : AreWorks after
@@ -198,3 +197,46 @@ module _ (before after : Ground) (c : ConnId) (seat : Seat) (hand : Hand) (newes
     written = written;
     settled = kept before after c seat hand held one works classes records own_left newest.at.number newest_latched keeps;
   }
+
+-- the step on a plan, with the hand as it was lent
+pub next_written : (manager : Manager) (before after : Ground) (c : ConnId) (hand written now : Hand) (is_last : Bool) →
+    IsSomeAnd (seat_of before.seats c) (λ seat. hand ≡ seat.hand) →
+    HaveOneHolder before.seats → AreWorks before →
+    (next : Pair) × WritesPlanned before.image after.image hand written next →
+    ((n : ℕ) → after.class_of n ≡ before.class_of n) →
+    now ≡ ended manager written →
+    after.seats ≡ with_hand before.seats c.slot now →
+    is_last ≡ is_written written →
+    WritesNext manager before after c is_last × AreWorks after
+next_written manager before after c hand written now is_last lent one works step classes ends_so records last =
+    let found = some_and_of (λ seat. hand ≡ seat.hand) (seat_of before.seats c) lent in
+    let seat = found.0 in
+    let next = step.0 in
+    let is = subst (λ (h : Hand). WritesPlanned before.image after.image h written next) found.1.1 step.1 in
+    let seats = records ∙ ap (with_hand before.seats c.slot) ends_so in
+    (
+      writes_next manager before after c seat written next found.1.0 one works is classes seats is_last (ended_rest manager written seat.hand is.rest) last,
+      next_works manager before after c seat written next found.1.0 one works is classes seats,
+    )
+
+-- the step on an undo record, with the hand as it was lent
+pub back_taken : (before after : Ground) (c : ConnId) (hand now : Hand) →
+    IsSomeAnd (seat_of before.seats c) (λ seat. hand ≡ seat.hand) →
+    HaveOneHolder before.seats → AreWorks before →
+    TakesBack hand.undo now.undo before.image after.image →
+    now.plan ≡ record hand.plan { pairs = [] } →
+    now ≡ record hand { undo = now.undo; plan = now.plan } →
+    ((n : ℕ) → after.class_of n ≡ before.class_of n) →
+    after.seats ≡ with_hand before.seats c.slot now →
+    TakesNewestBack before after c × AreWorks after
+back_taken before after c hand now lent one works back plan rest classes records =
+    let found = some_and_of (λ seat. hand ≡ seat.hand) (seat_of before.seats c) lent in
+    let seat = found.0 in
+    let same = found.1.1 in
+    let back_seat = subst (λ (h : Hand). TakesBack h.undo now.undo before.image after.image) same back in
+    let plan_seat : now.plan ≡ record seat.hand.plan { pairs = [] } = subst (λ (h : Hand). now.plan ≡ record h.plan { pairs = [] }) same plan in
+    let rest_seat : now ≡ record seat.hand { undo = now.undo; plan = now.plan } = subst (λ (h : Hand). now ≡ record h { undo = now.undo; plan = now.plan }) same rest in
+    (
+      takes_newest_back before after c seat now back_seat.newest found.1.0 one works back_seat.shorter plan_seat rest_seat back_seat.written back_seat.settled classes records,
+      back_works before after c seat now back_seat.newest found.1.0 one works back_seat.shorter plan_seat rest_seat back_seat.written back_seat.settled classes records,
+    )

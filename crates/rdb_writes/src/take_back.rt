@@ -9,8 +9,8 @@ use rdb_base::identity::ConnId;
 use rdb_cells::{Region, take_back};
 use rdb_registry::Registry;
 
-/// Puts back what the cell held that a connection's unfinished work wrote last, forgets its pair, and gives up what is left of the plan. The
-/// undo record isn't empty. The cost is that of one write, and grows with what is left of the plan.
+/// Puts back what the cell held that a connection's unfinished work wrote last, forgets its pair, and gives up what is left of the plan.
+/// The undo record isn't empty. The cost is that of one write, and grows with what is left of the plan.
 pub fn take_newest_back<C: Region>(cells: &mut C, registry: &mut Registry, c: ConnId)
     requires works { AreWorks (ground C.Cells cells.old registry.old) }
     requires logged { IsSomeAnd (seat_of registry.old.seats c) (λ seat. 0 < length seat.hand.undo.pairs) }

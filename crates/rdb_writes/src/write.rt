@@ -1,6 +1,6 @@
 //! The next cell of a plan is written. It changes one cell, the connection's undo record, and what is left of its plan.
 
-ghost use Rattle.std.specs.Prelude.{◌≡◌, ◌<◌, ◌×◌, ℕ, length, true, IsSomeAnd};
+ghost use Rattle.std.specs.Prelude.{◌≡◌, ◌<◌, ℕ, length, true, IsSomeAnd};
 ghost use Rattle.rdb_cells.specs.declared.pairs.Pair.{Pair};
 ghost use Rattle.rdb_cells.specs.Images.{IsCell};
 ghost use Rattle.rdb_cells.specs.Records.{names};

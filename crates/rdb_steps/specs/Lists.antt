@@ -1,0 +1,57 @@
+-- What a step leaves of the two lists of versions: the settled ones and those aimed at.
+use Rattle.std.specs.Prelude.{◌≡◌, ◌+◌, ◌==◌, ◌∷◌, ◌++◌, ℕ, List, [], if◌then◌else◌}
+use Rattle.std.specs.Int.{bit_at}
+use Rattle.rdb_base.specs.declared.identity.Manager.{Manager}
+use Rattle.rdb_base.specs.declared.identity.Stamp.{Stamp}
+use Rattle.rdb_schema.specs.declared.schema.Schema.{Schema}
+use Rattle.rdb_registry.specs.declared.seat.Seat.{Seat}
+use Rattle.rdb_sight.specs.Versions.{Version, Object, Versions, objects_in, chain_in, with_chain_in, IsWithout}
+use Rattle.rdb_writes.specs.Grounds.{Ground}
+use Rattle.rdb_steps.specs.Kept.{Agrees}
+
+-- whatever versions are settled and aimed at before, afterwards these are
+abbrev pub Leaves : Schema → Manager → Ground → Ground → (Versions → Versions → Versions) → (Versions → Versions → Versions) → Type 0
+Leaves schema manager before after settled_now aimed_now = (settled aimed : Versions) → Agrees schema manager before settled aimed →
+    Agrees schema manager after (settled_now settled aimed) (aimed_now settled aimed)
+
+-- the settled versions, and those aimed at, as they are
+abbrev pub the_settled : Versions → Versions → Versions
+the_settled settled aimed = settled
+
+abbrev pub the_aimed : Versions → Versions → Versions
+the_aimed settled aimed = aimed
+
+-- both lists stay
+abbrev pub KeepsLists : Schema → Manager → Ground → Ground → Type 0
+KeepsLists schema manager before after = Leaves schema manager before after the_settled the_aimed
+
+-- the versions, from a class on, with those of the latched classes from another list
+abbrev pub taken_over_from : ℕ → ℕ → Versions → Versions → Versions
+taken_over_from latches class [] others = []
+taken_over_from latches class (objects ∷ rest) others =
+    (if bit_at latches class == 1 then objects_in others class else objects) ∷ taken_over_from latches (class + 1) rest others
+
+-- the versions, with those of a connection's classes from another list
+abbrev pub taken_over : Seat → Versions → Versions → Versions
+taken_over seat versions others = taken_over_from seat.latches 0 versions others
+
+-- a plan is written whole, or a commit is marked: what a connection aimed at is settled
+abbrev pub Settles : Schema → Manager → Ground → Ground → Seat → Type 0
+Settles schema manager before after seat = Leaves schema manager before after (taken_over seat) the_aimed
+
+-- a plan or a latch is given up: what a connection aimed at is no longer spoken of
+abbrev pub GivesUp : Schema → Manager → Ground → Ground → Seat → Type 0
+GivesUp schema manager before after seat = Leaves schema manager before after the_settled (λ settled aimed. taken_over seat aimed settled)
+
+-- a version of an object has another stamp, in both lists
+pub record Restamps (schema : Schema) (manager : Manager) (before after : Ground) (class id : ℕ) (header : ℕ) (stamp : Stamp) : Type 0 where
+  pub lists : (settled aimed : Versions) (newer older : List Version) (v : Version) → Agrees schema manager before settled aimed →
+      chain_in settled class id ≡ newer ++ v ∷ older → v.header ≡ header →
+      Agrees schema manager after (with_chain_in settled class id (newer ++ record v { stamp = stamp } ∷ older))
+      (with_chain_in aimed class id (newer ++ record v { stamp = stamp } ∷ older))
+
+-- a plan is made: the object of a class and an id will have another chain, of which this is so
+abbrev pub PlansChain : Schema → Manager → Ground → Ground → ℕ → ℕ → (List Version → List Version → Type 0) → Type 0
+PlansChain schema manager before after class id IsNext = (settled aimed : Versions) (chain : List Version) →
+    Agrees schema manager before settled aimed → IsNext (chain_in aimed class id) chain →
+    Agrees schema manager after settled (with_chain_in aimed class id chain)
