@@ -6,6 +6,8 @@
 
 mod laws;
 mod take_back;
+#[cfg(test)]
+mod tests;
 mod unlogged;
 mod write;
 
