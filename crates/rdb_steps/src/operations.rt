@@ -48,7 +48,11 @@ impl<P: Pages> State<P> {
         self.make_room_for_write(c)?;
         self.registry.take_latch(c, op.class());
         let hand = self.registry.seat_mut(c);
-        hand.work = Some(Work { op, bytes });
+        hand.work = Some(Work {
+            op,
+            bytes,
+            puts: None,
+        });
         hand.phase = Phase::Writing;
         Ok(())
     }
@@ -85,7 +89,12 @@ impl<P: Pages> State<P> {
     /// writes; under MVCC its latch is given up.
     pub fn finish_work(&mut self, c: ConnId, version: CellRef) -> Reply {
         let hand = self.registry.seat_mut(c);
-        let Some(Work { op, bytes: _ }) = hand.work.take() else {
+        let Some(Work {
+            op,
+            bytes: _,
+            puts: _,
+        }) = hand.work.take()
+        else {
             unreachable!()
         };
         hand.own.put(op.class(), object_of(&op), version);

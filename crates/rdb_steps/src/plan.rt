@@ -4,7 +4,7 @@ use crate::garbage::first_garbage;
 use crate::state::{State, held, tx_of};
 use rdb_base::identity::{ConnId, Stamp};
 use rdb_base::operation::Op;
-use rdb_cells::{Cells, Overlay, Plan, VersionHeader};
+use rdb_cells::{Cells, Overlay, Plan};
 use rdb_pages::{CellRef, Pages};
 use rdb_registry::Work;
 use rdb_store::{NewVersion, Store};
@@ -61,11 +61,16 @@ impl<P: Pages> State<P> {
             replaces: seat.hand.own.get(class, id),
         };
         let mut overlay = Overlay::over(&self.memory, plan, class);
-        match &seat.hand.work {
+        let version = match &seat.hand.work {
             Some(work) => put(&self.store, work, &new, &mut overlay),
             None => unreachable!(),
+        };
+        let plan = overlay.plan();
+        let hand = self.registry.seat_mut(c);
+        hand.plan = plan;
+        if let Some(work) = &mut hand.work {
+            work.puts = Some(version);
         }
-        self.registry.seat_mut(c).plan = overlay.plan();
     }
 
     // The id of the object that the operation in work writes: a new one, which the operation then has, where it makes one.
@@ -84,35 +89,25 @@ impl<P: Pages> State<P> {
     }
 
     /// The version that the plan of the operation in work put, where its cells are all written: none where the plan was of another drop.
-    /// The newest version of the object is the transaction's own then, and another than the one that it had before. The cost is that of one
-    /// look-up.
     pub(crate) fn version_put(&self, c: ConnId) -> Option<CellRef> {
-        let seat = self.seat(c);
-        let Some(work) = &seat.hand.work else {
-            unreachable!()
-        };
-        let class = work.op.class();
-        let id = object_of(&work.op);
-        let newest = self
-            .store
-            .class(class)
-            .objects()
-            .newest_version(&self.memory, id)?;
-        let stamp = VersionHeader::stamp_in(self.memory.read(newest));
-        if stamp == Stamp::By(tx_of(seat)) && seat.hand.own.get(class, id) != Some(newest) {
-            Some(newest)
-        } else {
-            None
+        match &self.seat(c).hand.work {
+            Some(work) => work.puts,
+            None => unreachable!(),
         }
     }
 }
 
-// Plans the version of an operation.
-fn put<C: Cells>(store: &Store, work: &Work, new: &NewVersion, overlay: &mut Overlay<C>) {
-    let _version = match &work.op {
+// Plans the version of an operation, and returns it.
+fn put<C: Cells>(
+    store: &Store,
+    work: &Work,
+    new: &NewVersion,
+    overlay: &mut Overlay<C>,
+) -> CellRef {
+    match &work.op {
         Op::Del { .. } => store.plan_tombstone(new, overlay),
         _ => store.plan_put(new, work.bytes.as_slice(), overlay),
-    };
+    }
 }
 
 /// The id of the object that an operation writes; 0 where it hasn't made it yet.

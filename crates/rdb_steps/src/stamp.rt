@@ -2,9 +2,9 @@
 
 use crate::state::{State, open_in};
 use rdb_base::identity::{ConnId, Manager, Stamp};
-use rdb_cells::Region;
 use rdb_pages::{CellRef, Pages};
 use rdb_registry::OwnWrite;
+use rdb_writes::write_unlogged;
 
 impl<P: Pages> State<P> {
     /// The first object in the order of class, then id, that a connection's open transaction wrote and whose version is still its own.
@@ -37,6 +37,6 @@ impl<P: Pages> State<P> {
         let cell = self
             .store
             .stamped(class, version, Stamp::Done(commit), &self.memory);
-        self.memory.write(version, cell);
+        write_unlogged(&mut self.memory, &self.registry, version, cell);
     }
 }

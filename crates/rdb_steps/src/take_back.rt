@@ -2,15 +2,16 @@
 
 use crate::state::State;
 use rdb_base::identity::{ConnId, Manager};
-use rdb_cells::{HasPairs, take_back};
+use rdb_cells::HasPairs;
 use rdb_pages::Pages;
+use rdb_writes::take_newest_back;
 
 impl<P: Pages> State<P> {
     /// Puts back what the cell that was written last held, and forgets the pair; the record isn't empty. With the last pair under MURSIW no
     /// version of the open transaction is left. The cost is constant.
     pub fn take_newest_back(&mut self, c: ConnId) {
+        take_newest_back(&mut self.memory, &mut self.registry, c);
         let hand = self.registry.seat_mut(c);
-        take_back(&mut self.memory, &mut hand.undo);
         if hand.undo.len() == 0 && self.manager == Manager::Mursiw {
             hand.own.clear();
         }

@@ -1,25 +1,15 @@
 //! The next cell of a plan is written. It changes one cell, its undo record, and what is left of the plan.
 
 use crate::state::State;
-use rdb_base::identity::{ConnId, Manager};
-use rdb_cells::{HasPairs, log_write};
+use rdb_base::identity::ConnId;
 use rdb_pages::{CellRef, Pages};
+use rdb_writes::write_next;
 
 impl<P: Pages> State<P> {
-    // Writes the next cell of a connection's plan, which isn't empty, and logs first what it held where the record doesn't have it yet.
-    // Returns whether that was the last one; under MVCC the undo record is then empty, since it spans one plan. The cost is constant, but
-    // at the last cell, where it grows with the plan.
+    // Writes the next cell of a connection's plan, which isn't empty. Returns whether that was the last one. The cost is constant, but at
+    // the last cell, where it grows with the plan.
     fn write_next(&mut self, c: ConnId) -> bool {
-        let hand = self.registry.seat_mut(c);
-        let pair = hand.plan.pop();
-        log_write(&mut self.memory, &mut hand.undo, pair.at, pair.cell);
-        if hand.plan.len() != 0 {
-            return false;
-        }
-        if self.manager == Manager::Mvcc {
-            hand.undo.clear();
-        }
-        true
+        write_next(&mut self.memory, &mut self.registry, self.manager, c)
     }
 
     /// Writes the next cell of the plan of a connection's operation in work, or of the drop of a garbage version before it. Returns the

@@ -4,3 +4,4 @@ pub mod PlanLemmas
 pub mod SeatLemmas
 pub mod StepLemmas
 pub mod ChangeLemmas
+mod TestLemmas

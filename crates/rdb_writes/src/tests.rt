@@ -1,12 +1,13 @@
 //! A plan of two cells that is written, and one that is taken back.
 
-ghost use Rattle.std.specs.Prelude.{◌≡◌, ◌<◌, ℕ, length, true, Some, IsSomeAnd};
+ghost use Rattle.std.specs.Prelude.{◌≡◌, ◌<◌, ℕ, length, true, false, Some, IsSomeAnd};
 ghost use Rattle.std.specs.Int.{bit_at};
 ghost use Rattle.std.specs.Bool.{OnTrue};
 ghost use Rattle.rdb_cells.specs.Memory.{memory_image, memory_class};
 ghost use Rattle.rdb_cells.specs.Records.{names};
-ghost use Rattle.rdb_registry.specs.Seats.{seat_of, IsHeld, NoOtherHolds};
-ghost use Rattle.rdb_writes.specs.Grounds.{IsWork, AreWorks, NoneWorksOn};
+ghost use Rattle.rdb_registry.specs.declared.seat.Seat.{Seat as SeatValue};
+ghost use Rattle.rdb_registry.specs.Seats.{seat_in, seat_of, IsHeld, NoOtherHolds};
+ghost use Rattle.rdb_writes.specs.Grounds.{IsWork, AreWorks, WorksOn, NoneWorksOn};
 
 use crate::{take_newest_back, write_next, write_unlogged};
 use rdb_base::identity::{ConnId, Manager};
@@ -14,62 +15,87 @@ use rdb_cells::doubles::memory::MemoryCells;
 use rdb_cells::{Cells, HasPairs, Pair};
 use rdb_pages::{Cell, CellRef};
 use rdb_registry::{Registry, Seat};
+use std::process::Abort;
 use std::test::Fail;
 
-// Whether the cells of the pairs are of the first class, and its latch is one of these.
-fn are_latched(cells: &MemoryCells, latches: u64, pairs: &[Pair]) -> bool
-    ensures { OnTrue result ((n : ℕ) → names pairs.now n ≡ true
-        → (class : ℕ) × (memory_class cells.now n ≡ Some class) × (bit_at latches class ≡ 1)) }
+// The latch of the first class is one of these.
+fn has_first(rt: &impl Abort, latches: u64)
+    ensures { bit_at latches 0 ≡ 1 }
+{
+    assert!(rt; (latches >> 0u32) & 1 == 1);
+}
+
+// The cells of the pairs are of the first class, and its latch is one of these.
+fn all_latched(rt: &impl Abort, cells: &MemoryCells, latches: u64, pairs: &[Pair])
+    ensures { (n : ℕ) → names pairs.now n ≡ true
+        → (class : ℕ) × (memory_class cells.now n ≡ Some class) × (bit_at latches class ≡ 1) }
 {
     for pair in pairs {
-        if !cells.in_class(0, pair.at) || latches & 1 == 0 {
-            return false;
-        }
+        has_first(rt, latches);
+        assert!(rt; cells.in_class(0, pair.at));
     }
-    true
 }
 
-// Whether a record works on cells of the first class alone, whose latch it holds, and can log them.
-fn is_work(cells: &MemoryCells, seat: &Seat, registry: &Registry) -> bool
-    ensures { OnTrue result (IsWork (record { image = memory_image cells.now; class_of = memory_class cells.now; seats = registry.now.seats }) seat.now) }
+// A record works on cells of the first class alone, whose latch it holds, and can log them.
+fn is_work(rt: &impl Abort, cells: &MemoryCells, registry: &Registry, seat: &Seat)
+    ensures { IsWork (record { image = memory_image cells.now; class_of = memory_class cells.now; seats = registry.now.seats }) seat.now }
 {
+    let _ = registry;
     let undo = &seat.hand.undo;
     let plan = &seat.hand.plan;
-    undo.len() + plan.len() <= undo.room()
-        && are_latched(cells, seat.latches, undo.as_slice())
-        && are_latched(cells, seat.latches, plan.as_slice())
+    assert!(rt; undo.len() <= undo.room() && plan.len() <= undo.room() - undo.len());
+    all_latched(rt, cells, seat.latches, undo.as_slice());
+    all_latched(rt, cells, seat.latches, plan.as_slice());
 }
 
-// Whether each record does.
-fn are_works(cells: &MemoryCells, registry: &Registry) -> bool
-    ensures { OnTrue result (AreWorks (record { image = memory_image cells.now; class_of = memory_class cells.now; seats = registry.now.seats })) }
+// So does the record in a slot, if it is held.
+fn slot_works(rt: &impl Abort, cells: &MemoryCells, registry: &Registry, slot: u32)
+    ensures { (seat : SeatValue) → seat_in registry.now.seats slot ≡ Some seat
+        → IsWork (record { image = memory_image cells.now; class_of = memory_class cells.now; seats = registry.now.seats }) seat }
+{
+    if let Some(seat) = registry.at(slot) {
+        is_work(rt, cells, registry, seat);
+    }
+}
+
+// So does each record.
+fn are_works(rt: &impl Abort, cells: &MemoryCells, registry: &Registry)
+    ensures { AreWorks (record { image = memory_image cells.now; class_of = memory_class cells.now; seats = registry.now.seats }) }
 {
     registry.sound();
     for slot in 0..32u32 {
-        if let Some(seat) = registry.at(slot) {
-            if !is_work(cells, seat, registry) {
-                return false;
-            }
-        }
+        slot_works(rt, cells, registry, slot);
     }
-    true
 }
 
-// Whether no record works on a cell.
-fn is_idle(cells: &MemoryCells, registry: &Registry, at: CellRef) -> bool
-    ensures { OnTrue result (NoneWorksOn (record { image = memory_image cells.now; class_of = memory_class cells.now; seats = registry.now.seats })
-        at.number) }
+// A record doesn't work on a cell.
+fn is_idle(rt: &impl Abort, seat: &Seat, at: CellRef)
+    ensures undo { names seat.now.hand.undo.pairs at.number ≡ false }
+    ensures plan { names seat.now.hand.plan.pairs at.number ≡ false }
+{
+    assert!(rt; !seat.hand.undo.has(at));
+    assert!(rt; !seat.hand.plan.has(at));
+}
+
+// Nor does the record in a slot, if it is held.
+fn slot_idle(rt: &impl Abort, registry: &Registry, slot: u32, at: CellRef)
+    ensures { (seat : SeatValue) → seat_in registry.now.seats slot ≡ Some seat → ¬ WorksOn seat.hand at.number }
+{
+    if let Some(seat) = registry.at(slot) {
+        is_idle(rt, seat, at);
+    }
+}
+
+// No record does.
+fn are_idle(rt: &impl Abort, cells: &MemoryCells, registry: &Registry, at: CellRef)
+    ensures { NoneWorksOn (record { image = memory_image cells.now; class_of = memory_class cells.now; seats = registry.now.seats })
+        at.number }
 {
     let _ = cells;
     registry.sound();
     for slot in 0..32u32 {
-        if let Some(seat) = registry.at(slot) {
-            if seat.hand.undo.has(at) || seat.hand.plan.has(at) {
-                return false;
-            }
-        }
+        slot_idle(rt, registry, slot, at);
     }
-    true
 }
 
 // Whether a connection is held and nobody holds the latch of the first class.
@@ -147,12 +173,16 @@ fn a_plan_is_written_a_cell_at_a_time(rt: HostRuntime) -> Result<(), Fail> {
     let c = ready(&cells, &mut registry).expect(&rt, "a free slot");
     lay(&mut registry, c, 2, 7);
     lay(&mut registry, c, 1, 6);
-    assert!(rt; are_works(&cells, &registry) && has_plan(&registry, c));
+    are_works(&rt, &cells, &registry);
+    assert!(rt; has_plan(&registry, c));
     let is_last = write_next(&mut cells, &mut registry, Manager::Mvcc, c);
-    assert!(rt; !is_last && word_of(&cells, 1) == Some(6) && word_of(&cells, 2) == Some(0));
-    assert!(rt; has_undo(&registry, c) && has_plan(&registry, c));
+    assert!(rt; !is_last);
+    assert!(rt; word_of(&cells, 1) == Some(6) && word_of(&cells, 2) == Some(0));
+    assert!(rt; has_undo(&registry, c));
+    assert!(rt; has_plan(&registry, c));
     let is_last = write_next(&mut cells, &mut registry, Manager::Mvcc, c);
-    assert!(rt; is_last && word_of(&cells, 2) == Some(7));
+    assert!(rt; is_last);
+    assert!(rt; word_of(&cells, 2) == Some(7));
     assert!(rt; !has_undo(&registry, c) && !has_plan(&registry, c));
     Ok(())
 }
@@ -163,13 +193,17 @@ fn a_plan_is_taken_back_and_given_up(rt: HostRuntime) -> Result<(), Fail> {
     let mut registry = Registry::new(rt.alloc(), 1)?;
     let c = ready(&cells, &mut registry).expect(&rt, "a free slot");
     let at = CellRef { number: 1 };
-    assert!(rt; are_works(&cells, &registry) && is_idle(&cells, &registry, at) && cells.holds(at));
+    are_works(&rt, &cells, &registry);
+    are_idle(&rt, &cells, &registry, at);
+    assert!(rt; cells.holds(at));
     write_unlogged(&mut cells, &registry, at, filled(5));
     lay(&mut registry, c, 2, 7);
     lay(&mut registry, c, 1, 6);
-    assert!(rt; are_works(&cells, &registry) && has_plan(&registry, c));
+    are_works(&rt, &cells, &registry);
+    assert!(rt; has_plan(&registry, c));
     let _is_last = write_next(&mut cells, &mut registry, Manager::Mursiw, c);
-    assert!(rt; word_of(&cells, 1) == Some(6) && has_undo(&registry, c));
+    assert!(rt; word_of(&cells, 1) == Some(6));
+    assert!(rt; has_undo(&registry, c));
     take_newest_back(&mut cells, &mut registry, c);
     assert!(rt; word_of(&cells, 1) == Some(5));
     assert!(rt; !has_undo(&registry, c) && !has_plan(&registry, c));
