@@ -16,10 +16,15 @@ use Rattle.rdb_registry.specs.OwnWrites.{header_of}
 use Rattle.rdb_registry.specs.Seats.{EachSeat, HoldsLatch}
 use Rattle.rdb_sight.specs.Versions.{Version, Object, Versions, objects_in, chain_in, chain_of, own_version}
 use Rattle.rdb_store.specs.Holds.{Holds}
+use Rattle.rdb_store.specs.Laws.{RestsOnClass}
 use Rattle.rdb_store.specs.Shapes.{schema_class}
 use Rattle.rdb_store.specs.Stored.{HasVersion, ref_of}
 use Rattle.rdb_writes.specs.Grounds.{Ground, AreWorks, settled_image, aimed_image}
-use Rattle.rdb_writes.specs.Steps.{spans_one_plan}
+use Rattle.rdb_writes.specs.Steps.{spans_one_plan, is_written}
+
+-- a schema whose indexes a store serves: what each of its classes holds rests on its own cells
+abbrev pub IsLawful : Schema → Type 0
+IsLawful schema = (class : ℕ) → class < length schema.classes → RestsOnClass (schema_class schema class)
 
 -- in this image the class's cells hold these objects
 abbrev pub HoldsClass : Schema → Ground → Image → ℕ → List Object → Type 0
@@ -30,13 +35,9 @@ pub record Stands (schema : Schema) (g : Ground) (settled : Versions) : Type 0 w
   pub count : length settled ≡ length schema.classes
   pub each : (class : ℕ) → class < length schema.classes → HoldsClass schema g (settled_image g) class (objects_in settled class)
 
--- nothing is left of the plan
-abbrev pub has_no_plan : Hand → Bool
-has_no_plan hand = length hand.plan.pairs == 0
-
 -- the drop of an own version is planned: a plan is left that no operation in work asked for
 abbrev pub is_dropping : Hand → Bool
-is_dropping hand = not (has_no_plan hand) && is_none hand.work
+is_dropping hand = not (is_written hand) && is_none hand.work
 
 abbrev pub is_rolling_back : Phase → Bool
 is_rolling_back phase.RollingBack = true
@@ -64,8 +65,9 @@ abbrev pub IsUnaimed : Manager → Ground → ℕ → Type 0
 IsUnaimed manager g class = EachSeat (λ slot seat. HoldsLatch seat class → aims manager seat ≡ false) g.seats
 
 -- there the versions aimed at are the settled ones
-abbrev pub RestIsSettled : Manager → Ground → Versions → Versions → Type 0
-RestIsSettled manager g settled aimed = (class : ℕ) → IsUnaimed manager g class → objects_in aimed class ≡ objects_in settled class
+pub record RestIsSettled (schema : Schema) (manager : Manager) (g : Ground) (settled aimed : Versions) : Type 0 where
+  pub count : length aimed ≡ length schema.classes
+  pub same : (class : ℕ) → class < length schema.classes → IsUnaimed manager g class → objects_in aimed class ≡ objects_in settled class
 
 -- the open transaction of a record, as versions name it
 abbrev pub tx_of : Seat → Transaction → TxId
@@ -87,7 +89,7 @@ owns_settled manager seat = spans_one_plan manager || (is_marked seat || (takes_
 -- those of the versions that it has made
 pub record OwnAre (manager : Manager) (seat : Seat) (settled aimed : Versions) : Type 0 where
   pub settled : owns_settled manager seat ≡ true → Owns seat settled
-  pub made : owns_settled manager seat ≡ false → takes_back manager seat ≡ false → has_no_plan seat.hand ≡ true → Owns seat aimed
+  pub made : owns_settled manager seat ≡ false → takes_back manager seat ≡ false → is_written seat.hand ≡ true → Owns seat aimed
 
 -- no version has a serial above those that were drawn, and no object an id above those of its class
 pub record Drawn (serials : ℕ) (ids : List ℕ) (versions : Versions) : Type 0 where
@@ -99,7 +101,7 @@ pub record Agrees (schema : Schema) (manager : Manager) (g : Ground) (settled ai
   pub works : AreWorks g
   pub stands : Stands schema g settled
   pub aims : Aims schema manager g aimed
-  pub rest : RestIsSettled manager g settled aimed
+  pub rest : RestIsSettled schema manager g settled aimed
 
 -- What holds of the cells and the records at every state: they agree with the two lists, and each record's own writes are those of its
 -- transaction's versions.

@@ -1,5 +1,5 @@
 -- What a step leaves of the two lists of versions: the settled ones and those aimed at.
-use Rattle.std.specs.Prelude.{◌≡◌, ◌+◌, ◌==◌, ◌∷◌, ◌++◌, ℕ, List, [], if◌then◌else◌}
+use Rattle.std.specs.Prelude.{◌≡◌, ◌+◌, ◌==◌, ◌∷◌, ◌++◌, ℕ, List, [], false, if◌then◌else◌}
 use Rattle.std.specs.Int.{bit_at}
 use Rattle.rdb_base.specs.declared.identity.Manager.{Manager}
 use Rattle.rdb_base.specs.declared.identity.Stamp.{Stamp}
@@ -7,7 +7,8 @@ use Rattle.rdb_schema.specs.declared.schema.Schema.{Schema}
 use Rattle.rdb_registry.specs.declared.seat.Seat.{Seat}
 use Rattle.rdb_sight.specs.Versions.{Version, Object, Versions, objects_in, chain_in, with_chain_in, IsWithout}
 use Rattle.rdb_writes.specs.Grounds.{Ground}
-use Rattle.rdb_steps.specs.Kept.{Agrees}
+use Rattle.rdb_writes.specs.Steps.{spans_one_plan}
+use Rattle.rdb_steps.specs.Kept.{Agrees, takes_back}
 
 -- whatever versions are settled and aimed at before, afterwards these are
 abbrev pub Leaves : Schema → Manager → Ground → Ground → (Versions → Versions → Versions) → (Versions → Versions → Versions) → Type 0
@@ -20,6 +21,10 @@ the_settled settled aimed = settled
 
 abbrev pub the_aimed : Versions → Versions → Versions
 the_aimed settled aimed = aimed
+
+-- under MURSIW whoever writes a plan isn't taking back
+abbrev pub WritesLive : Manager → Seat → Type 0
+WritesLive manager seat = spans_one_plan manager ≡ false → takes_back manager seat ≡ false
 
 -- both lists stay
 abbrev pub KeepsLists : Schema → Manager → Ground → Ground → Type 0

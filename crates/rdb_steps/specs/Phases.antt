@@ -8,7 +8,7 @@ use Rattle.rdb_registry.specs.declared.hand.Hand.{Hand}
 use Rattle.rdb_registry.specs.declared.seat.Seat.{Seat}
 use Rattle.rdb_registry.specs.Seats.{HoldsLatch, all_latches}
 use Rattle.rdb_writes.specs.Steps.{spans_one_plan}
-use Rattle.rdb_steps.specs.Kept.{has_no_plan, is_dropping, is_marked}
+use Rattle.rdb_steps.specs.Kept.{is_dropping, is_marked}
 
 -- no cell is worked on: no latch, plan, pair or operation in work
 pub record IsAtRest (seat : Seat) : Type 0 where

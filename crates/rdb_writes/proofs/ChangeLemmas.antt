@@ -19,7 +19,7 @@ use Rattle.rdb_writes.specs.Grounds.{Ground, IsLatched, WorksOn, IsWork, AreWork
 use Rattle.rdb_writes.proofs.RecordLemmas.{none_names, settled_own}
 use Rattle.rdb_writes.proofs.SeatLemmas.{same_logged}
 use Rattle.rdb_writes.proofs.WorkLemmas.{in_its_slot, others_lack}
-use Rattle.rdb_writes.proofs.StepLemmas.{now, at, at_now, seats_are, lack_now, own_settled, elsewhere_settled, works_now}
+use Rattle.rdb_writes.proofs.StepLemmas.{at, seats_are, own_settled, elsewhere_settled, works_now}
 
 -- no record has a cell on which nobody works
 none_logged : (g : Ground) (n : ℕ) → NoneWorksOn g n → NoneNames (undo_records g.seats) n
@@ -85,9 +85,9 @@ module _ (before after : Ground) (slot : ℕ) (seat : Seat) (latches : ℕ) (cha
   latches_works works i s there = elim (which i slot) [
     | inl same ↦
         let here : seat_in after.seats slot ≡ Some (with_latches latches seat) =
-            ap (λ (seats : Seats). seat_in seats slot) changes.records
-            ∙ changed_here before.seats slot (with_latches latches)
-            ∙ ap (option_map (with_latches latches)) changes.held in
+        ap (λ (seats : Seats). seat_in seats slot) changes.records
+        ∙ changed_here before.seats slot (with_latches latches)
+        ∙ ap (option_map (with_latches latches)) changes.held in
         let is : s ≡ with_latches latches seat = (let both : Some s ≡ Some (with_latches latches seat) = sym there ∙ ap (seat_in after.seats) same ∙ here in cc) in
         subst (λ (x : Seat). IsWork after x) (sym is) (record {
           latched = λ n on. let l = changes.latched n on in (l.0, changes.cells.classes n ∙ l.1, l.2);
@@ -95,9 +95,9 @@ module _ (before after : Ground) (slot : ℕ) (seat : Seat) (latches : ℕ) (cha
         })
     | inr other ↦
         let was : seat_in before.seats i ≡ Some s =
-            sym (seat_in_other before.seats slot i (option_map (with_latches latches) (seat_in before.seats slot)) other)
-            ∙ sym (ap (λ (seats : Seats). seat_in seats i) changes.records)
-            ∙ there in
+        sym (seat_in_other before.seats slot i (option_map (with_latches latches) (seat_in before.seats slot)) other)
+        ∙ sym (ap (λ (seats : Seats). seat_in seats i) changes.records)
+        ∙ there in
         let work = works i s was in
         record {
           latched = λ n on. let l = work.latched n on in (l.0, changes.cells.classes n ∙ l.1, l.2);

@@ -96,12 +96,12 @@ module _ (undo now : Record) (image : Image) (rest : List Pair) (next : Pair) (l
         subst (λ (r : Record). length r.pairs + lacking r.pairs rest ≤ r.room) (sym made.3) (omega (arith, enough, one, last, more, longer))
   ]
 
-  -- there is a place to log the next
-  pub place_for_next : length undo.pairs + lacking undo.pairs (rest ++ next ∷ []) ≤ undo.room → names undo.pairs next.at.number ≡ false → length undo.pairs < undo.room
-  place_for_next enough unnamed =
-      let one : one_lacking undo.pairs next ≡ 1 = ap (λ (b : Bool). cond {A = ℕ} (not b) 1 0) unnamed in
-      let last = lacking_last undo.pairs rest next in
-      omega (arith, enough, one, last)
+-- there is a place to log the next
+pub place_for_next : (undo : Record) (rest : List Pair) (next : Pair) → length undo.pairs + lacking undo.pairs (rest ++ next ∷ []) ≤ undo.room → names undo.pairs next.at.number ≡ false → length undo.pairs < undo.room
+place_for_next undo rest next enough unnamed =
+    let one : one_lacking undo.pairs next ≡ 1 = ap (λ (b : Bool). cond {A = ℕ} (not b) 1 0) unnamed in
+    let last = lacking_last undo.pairs rest next in
+    omega (arith, enough, one, last)
 
 -- what a hand works on once the next pair is written
 pub works_on_less : (image_before image_after : Image) (before after : Hand) (next : Pair) → WritesPlanned image_before image_after before after next → (n : ℕ) → WorksOn after n → WorksOn before n

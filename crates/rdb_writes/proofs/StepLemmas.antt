@@ -23,9 +23,6 @@ and_true false b e = absurd cc
 
 -- One connection's hand changes, and it works on cells of its classes alone before and after.
 module _ (before after : Ground) (c : ConnId) (seat : Seat) (hand : Hand) (held : seat_of before.seats c ≡ Some seat) (one : HaveOneHolder before.seats) (works : AreWorks before) (classes : (n : ℕ) → after.class_of n ≡ before.class_of n) (records : after.seats ≡ with_hand before.seats c.slot hand) (own : (n : ℕ) → WorksOn hand n → IsLatched before seat n) where
-  pub now : Seat
-  now = record seat { hand = hand }
-
   pub at : seat_in before.seats c.slot ≡ Some seat
   at = in_its_slot before.seats c seat held
 
@@ -33,10 +30,10 @@ module _ (before after : Ground) (c : ConnId) (seat : Seat) (hand : Hand) (held 
   work = works c.slot seat at
 
   -- the slots, with this one written
-  pub seats_are : after.seats ≡ set before.seats c.slot (Some now)
+  pub seats_are : after.seats ≡ set before.seats c.slot (Some (record seat { hand = hand }))
   seats_are = records ∙ ap (λ (o : Option Seat). set before.seats c.slot (option_map (λ (s : Seat). record s { hand = hand }) o)) at
 
-  pub at_now : seat_in after.seats c.slot ≡ Some now
+  pub at_now : seat_in after.seats c.slot ≡ Some (record seat { hand = hand })
   at_now =
       ap (λ (seats : Seats). seat_in seats c.slot) records
       ∙ changed_here before.seats c.slot (λ (s : Seat). record s { hand = hand })
@@ -57,19 +54,19 @@ module _ (before after : Ground) (c : ConnId) (seat : Seat) (hand : Hand) (held 
   pub kept : (m : ℕ) → IsLatched before seat m → KeepsSettled seat.hand.undo.pairs hand.undo.pairs before.image after.image m → SameImage (settled_image after) (settled_image before)
   kept m latched keeps n =
       ap (λ (seats : Seats). settled (undo_records seats) after.image n) seats_are
-      ∙ settled_kept before.seats c.slot seat at (Some now) before.image after.image m (lack_before m latched) keeps n
+      ∙ settled_kept before.seats c.slot seat at (Some (record seat { hand = hand })) before.image after.image m (lack_before m latched) keeps n
 
   -- the cells of its classes, settled, where its undo record is empty
   pub own_settled : (n : ℕ) → IsLatched before seat n → hand.undo.pairs ≡ [] → settled_image after n ≡ after.image n
   own_settled n latched empty =
-      settled_own after.seats c.slot now at_now after.image n (lack_now n latched)
+      settled_own after.seats c.slot (record seat { hand = hand }) at_now after.image n (lack_now n latched)
       ∙ ap (λ (ps : List Pair). taken_back ps after.image n) empty
 
   -- a cell of another class stays as it is settled, where it stays
   pub elsewhere_settled : (n : ℕ) → ¬ IsLatched before seat n → after.image n ≡ before.image n → settled_image after n ≡ settled_image before n
   elsewhere_settled n free same =
       ap (λ (seats : Seats). settled (undo_records seats) after.image n) seats_are
-      ∙ settled_elsewhere before.seats c.slot seat at (Some now) before.image after.image n (unlatched before seat n work free) unlogged_now same
+      ∙ settled_elsewhere before.seats c.slot seat at (Some (record seat { hand = hand })) before.image after.image n (unlatched before seat n work free) unlogged_now same
     where
       unlogged_now : names hand.undo.pairs n ≡ false
       unlogged_now = elim (true_or_false (names hand.undo.pairs n)) [
@@ -213,8 +210,7 @@ next_written manager before after c hand written now is_last lent one works step
     let seat = found.0 in
     let next = step.0 in
     let is = subst (λ (h : Hand). WritesPlanned before.image after.image h written next) found.1.1 step.1 in
-    let seats = records ∙ ap (with_hand before.seats c.slot) ends_so in
-    (
+    let seats = records ∙ ap (with_hand before.seats c.slot) ends_so in (
       writes_next manager before after c seat written next found.1.0 one works is classes seats is_last (ended_rest manager written seat.hand is.rest) last,
       next_works manager before after c seat written next found.1.0 one works is classes seats,
     )
@@ -235,8 +231,7 @@ back_taken before after c hand now lent one works back plan rest classes records
     let same = found.1.1 in
     let back_seat = subst (λ (h : Hand). TakesBack h.undo now.undo before.image after.image) same back in
     let plan_seat : now.plan ≡ record seat.hand.plan { pairs = [] } = subst (λ (h : Hand). now.plan ≡ record h.plan { pairs = [] }) same plan in
-    let rest_seat : now ≡ record seat.hand { undo = now.undo; plan = now.plan } = subst (λ (h : Hand). now ≡ record h { undo = now.undo; plan = now.plan }) same rest in
-    (
+    let rest_seat : now ≡ record seat.hand { undo = now.undo; plan = now.plan } = subst (λ (h : Hand). now ≡ record h { undo = now.undo; plan = now.plan }) same rest in (
       takes_newest_back before after c seat now back_seat.newest found.1.0 one works back_seat.shorter plan_seat rest_seat back_seat.written back_seat.settled classes records,
       back_works before after c seat now back_seat.newest found.1.0 one works back_seat.shorter plan_seat rest_seat back_seat.written back_seat.settled classes records,
     )

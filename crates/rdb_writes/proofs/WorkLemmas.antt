@@ -57,9 +57,9 @@ works_kept before after slot seat hand at records classes own places works i s t
   | inl same ↦
       let now : Seat = record seat { hand = hand } in
       let here : seat_in after.seats slot ≡ Some now =
-          ap (λ (seats : Seats). seat_in seats slot) records
-          ∙ changed_here before.seats slot (λ (x : Seat). record x { hand = hand })
-          ∙ ap (option_map (λ (x : Seat). record x { hand = hand })) at in
+      ap (λ (seats : Seats). seat_in seats slot) records
+      ∙ changed_here before.seats slot (λ (x : Seat). record x { hand = hand })
+      ∙ ap (option_map (λ (x : Seat). record x { hand = hand })) at in
       let is : s ≡ now = (let both : Some s ≡ Some now = sym there ∙ ap (seat_in after.seats) same ∙ here in cc) in
       subst (λ (x : Seat). IsWork after x) (sym is) (record {
         latched = λ n on. let l = own n on in (l.0, classes n ∙ l.1, l.2);
@@ -67,9 +67,9 @@ works_kept before after slot seat hand at records classes own places works i s t
       })
   | inr other ↦
       let was : seat_in before.seats i ≡ Some s =
-          sym (seat_in_other before.seats slot i (option_map (λ (x : Seat). record x { hand = hand }) (seat_in before.seats slot)) other)
-          ∙ sym (ap (λ (seats : Seats). seat_in seats i) records)
-          ∙ there in
+      sym (seat_in_other before.seats slot i (option_map (λ (x : Seat). record x { hand = hand }) (seat_in before.seats slot)) other)
+      ∙ sym (ap (λ (seats : Seats). seat_in seats i) records)
+      ∙ there in
       let work = works i s was in
       record {
         latched = λ n on. let l = work.latched n on in (l.0, classes n ∙ l.1, l.2);

@@ -19,15 +19,17 @@ returns-clause-written g c =
     let next = c.pop-pair.result in
     let undo = c.args.hand.now.undo in
     let once = subst (λ (r : Record). AreDifferent (numbers_of r.pairs)) was c.each_once.ensures.once in
-    let enough = subst (λ (r : Record). length undo.pairs + lacking undo.pairs r.pairs ≤ undo.room) was c.requires.places in
-    (next, record {
-      plan = was;
-      rest = refl;
-      written = c.log_write.ensures.written;
-      logged = c.log_write.ensures.logged;
-      settled = c.log_write.ensures.settled;
-      aimed = λ n.
-          written_next rest next (g.C.Cells.image c.args.cells.now) (g.C.Cells.image c.log_write.new.cells) once c.log_write.ensures.written n
-          ∙ sym (ap (λ (r : Record). planned r.pairs (g.C.Cells.image c.args.cells.now) n) was);
-      places = places_left undo c.log_write.new.undo (g.C.Cells.image c.args.cells.now) rest next c.log_write.ensures.logged once enough;
-    })
+    let enough = subst (λ (r : Record). length undo.pairs + lacking undo.pairs r.pairs ≤ undo.room) was c.requires.places in (
+      next,
+      record {
+        plan = was;
+        rest = refl;
+        written = c.log_write.ensures.written;
+        logged = c.log_write.ensures.logged;
+        settled = c.log_write.ensures.settled;
+        aimed = λ n.
+            written_next rest next (g.C.Cells.image c.args.cells.now) (g.C.Cells.image c.log_write.new.cells) once c.log_write.ensures.written n
+            ∙ sym (ap (λ (r : Record). planned r.pairs (g.C.Cells.image c.args.cells.now) n) was);
+        places = places_left undo c.log_write.new.undo (g.C.Cells.image c.args.cells.now) rest next c.log_write.ensures.logged once enough;
+      },
+    )
