@@ -1,1 +1,4 @@
 pub mod ListLemmas
+pub mod GrantLemmas
+pub mod LatchLemmas
+pub mod StampLemmas

@@ -23,17 +23,17 @@ use Rattle.rdb_steps.specs.Kept.{IsLawful, HoldsClass, Agrees, AimsAt, IsUnaimed
 use Rattle.rdb_steps.specs.Lists.{KeepsLists, Settles, GivesUp, WritesLive, taken_over, taken_over_from}
 
 -- what a class holds, where its cells hold the same
-holds_same : (schema : Schema) → IsLawful schema → (before after : Ground) (image_before image_after : Image) (class : ℕ) (objects : List Object) →
+pub holds_same : (schema : Schema) → IsLawful schema → (before after : Ground) (image_before image_after : Image) (class : ℕ) (objects : List Object) →
     class < length schema.classes →
     ((n : ℕ) → after.class_of n ≡ before.class_of n) →
     ((n : ℕ) → before.class_of n ≡ Some class → image_after n ≡ image_before n) →
     HoldsClass schema before image_before class objects → HoldsClass schema after image_after class objects
 holds_same schema lawful before after image_before image_after class objects within classes same =
-    lawful class within image_before image_after before.class_of after.class_of objects
+    (lawful class within).cells image_before image_after before.class_of after.class_of objects
     (record { still = λ n e. (classes n ∙ e, same n e); none_come = λ n e. sym (classes n) ∙ e })
 
 -- lists taken over, class by class
-length_taken : (latches first : ℕ) (versions others : Versions) → length (taken_over_from latches first versions others) ≡ length versions
+pub length_taken : (latches first : ℕ) (versions others : Versions) → length (taken_over_from latches first versions others) ≡ length versions
 length_taken latches first [] others = refl
 length_taken latches first (objects ∷ rest) others = ap suc (length_taken latches (first + 1) rest others)
 
@@ -53,25 +53,25 @@ taken_beyond latches first (objects ∷ rest) others zero class is free =
     ap (λ (c : ℕ). cond (bit_at latches c == 1) (objects_in others c) objects) same ∙ ap (λ (b : Bool). cond b (objects_in others class) objects) free
 taken_beyond latches first (objects ∷ rest) others (suc k) class is free = taken_beyond latches (first + 1) rest others k class (omega (arith, is)) free
 
-taken_held : (seat : Seat) (versions others : Versions) (class : ℕ) → class < length versions → HoldsLatch seat class → objects_in (taken_over seat versions others) class ≡ objects_in others class
+pub taken_held : (seat : Seat) (versions others : Versions) (class : ℕ) → class < length versions → HoldsLatch seat class → objects_in (taken_over seat versions others) class ≡ objects_in others class
 taken_held seat versions others class within held =
     taken_at seat.latches 0 versions others class class (omega arith) within
     ∙ ap (λ (b : Bool). cond b (objects_in others class) (objects_in versions class)) (eq-eqb (bit_at seat.latches class) 1 held)
 
-taken_free : (seat : Seat) (versions others : Versions) (class : ℕ) → ¬ HoldsLatch seat class → objects_in (taken_over seat versions others) class ≡ objects_in versions class
+pub taken_free : (seat : Seat) (versions others : Versions) (class : ℕ) → ¬ HoldsLatch seat class → objects_in (taken_over seat versions others) class ≡ objects_in versions class
 taken_free seat versions others class free = taken_beyond seat.latches 0 versions others class class (omega arith) (elim (true_or_false (bit_at seat.latches class == 1)) [
   | inl yes_bit ↦ absurd (free (eqb-true (bit_at seat.latches class) 1 yes_bit))
   | inr no_bit ↦ no_bit
 ])
 
 -- a latch is held or not
-held_or_not : (seat : Seat) (class : ℕ) → HoldsLatch seat class ⊎ (¬ HoldsLatch seat class)
+pub held_or_not : (seat : Seat) (class : ℕ) → HoldsLatch seat class ⊎ (¬ HoldsLatch seat class)
 held_or_not seat class = elim (true_or_false (bit_at seat.latches class == 1)) [
   | inl yes_bit ↦ inl (eqb-true (bit_at seat.latches class) 1 yes_bit)
   | inr no_bit ↦ inr (λ held. false≢true (sym no_bit ∙ eq-eqb (bit_at seat.latches class) 1 held))
 ]
 
-class_is : (o : Option ℕ) (a b : ℕ) → o ≡ Some a → o ≡ Some b → a ≡ b
+pub class_is : (o : Option ℕ) (a b : ℕ) → o ≡ Some a → o ≡ Some b → a ≡ b
 class_is o a b e f = let same : Some a ≡ Some b = sym e ∙ f in cc
 
 unlatched_class : (g : Ground) (seat : Seat) (class n : ℕ) → ¬ HoldsLatch seat class → g.class_of n ≡ Some class → ¬ IsLatched g seat n

@@ -16,15 +16,21 @@ use Rattle.rdb_registry.specs.OwnWrites.{header_of}
 use Rattle.rdb_registry.specs.Seats.{EachSeat, HoldsLatch}
 use Rattle.rdb_sight.specs.Versions.{Version, Object, Versions, objects_in, chain_in, chain_of, own_version}
 use Rattle.rdb_store.specs.Holds.{Holds}
-use Rattle.rdb_store.specs.Laws.{RestsOnClass}
+use Rattle.rdb_store.specs.Laws.{RestsOnClass, RestsOnGrants, HoldsOne}
 use Rattle.rdb_store.specs.Shapes.{schema_class}
 use Rattle.rdb_store.specs.Stored.{HasVersion, ref_of}
 use Rattle.rdb_writes.specs.Grounds.{Ground, AreWorks, settled_image, aimed_image}
 use Rattle.rdb_writes.specs.Steps.{spans_one_plan, is_written}
 
--- a schema whose indexes a store serves: what each of its classes holds rests on its own cells
+-- what a class holds rests on its own cells, and stays as zero cells come; and its cells hold one list of objects at most
+pub record IsLawfulClass (schema : Schema) (class : ℕ) : Type 0 where
+  pub cells : RestsOnClass (schema_class schema class)
+  pub grants : RestsOnGrants (schema_class schema class)
+  pub one : HoldsOne (schema_class schema class)
+
+-- so it is of each class, as it is where a store serves each index of the schema
 abbrev pub IsLawful : Schema → Type 0
-IsLawful schema = (class : ℕ) → class < length schema.classes → RestsOnClass (schema_class schema class)
+IsLawful schema = (class : ℕ) → class < length schema.classes → IsLawfulClass schema class
 
 -- in this image the class's cells hold these objects
 abbrev pub HoldsClass : Schema → Ground → Image → ℕ → List Object → Type 0

@@ -1,12 +1,18 @@
 -- What a step leaves of the two lists of versions: the settled ones and those aimed at.
-use Rattle.std.specs.Prelude.{◌≡◌, ◌+◌, ◌==◌, ◌∷◌, ◌++◌, ℕ, List, [], false, if◌then◌else◌}
+use Rattle.std.specs.Prelude.{◌≡◌, ◌+◌, ◌==◌, ◌∷◌, ◌++◌, ℕ, List, [], false, Some, None, IsSome, if◌then◌else◌}
 use Rattle.std.specs.Int.{bit_at}
 use Rattle.rdb_base.specs.declared.identity.Manager.{Manager}
 use Rattle.rdb_base.specs.declared.identity.Stamp.{Stamp}
 use Rattle.rdb_schema.specs.declared.schema.Schema.{Schema}
+use Rattle.rdb_pages.specs.declared.cell.Cell.{Cell}
+use Rattle.rdb_pages.specs.Pages.{zero_cell}
+use Rattle.rdb_cells.specs.Images.{Writes}
 use Rattle.rdb_registry.specs.declared.seat.Seat.{Seat}
-use Rattle.rdb_sight.specs.Versions.{Version, Object, Versions, objects_in, chain_in, with_chain_in, IsWithout}
-use Rattle.rdb_writes.specs.Grounds.{Ground}
+use Rattle.rdb_registry.specs.Seats.{EachSeat, HoldsLatch, NoneHolds, with_latches}
+use Rattle.rdb_sight.specs.Versions.{Version, Versions, objects_in, chain_in, with_chain_in}
+use Rattle.rdb_store.specs.Plans.{Restamps}
+use Rattle.rdb_store.specs.Shapes.{schema_class}
+use Rattle.rdb_writes.specs.Grounds.{Ground, settled_image}
 use Rattle.rdb_writes.specs.Steps.{spans_one_plan}
 use Rattle.rdb_steps.specs.Kept.{Agrees, takes_back}
 
@@ -25,6 +31,15 @@ the_aimed settled aimed = aimed
 -- under MURSIW whoever writes a plan isn't taking back
 abbrev pub WritesLive : Manager → Seat → Type 0
 WritesLive manager seat = spans_one_plan manager ≡ false → takes_back manager seat ≡ false
+
+-- the cells that come are zero
+abbrev pub ComeZero : Ground → Ground → Type 0
+ComeZero before after = (n : ℕ) → before.class_of n ≡ None → IsSome (after.class_of n) → after.image n ≡ Some zero_cell
+
+-- the latches that a connection takes beside its own are held by nobody
+pub record TakesFree (before : Ground) (seat : Seat) (latches : ℕ) : Type 0 where
+  pub keeps : (class : ℕ) → HoldsLatch seat class → HoldsLatch (with_latches latches seat) class
+  pub free : (class : ℕ) → HoldsLatch (with_latches latches seat) class → ¬ HoldsLatch seat class → NoneHolds before.seats class
 
 -- both lists stay
 abbrev pub KeepsLists : Schema → Manager → Ground → Ground → Type 0
@@ -48,12 +63,30 @@ Settles schema manager before after seat = Leaves schema manager before after (t
 abbrev pub GivesUp : Schema → Manager → Ground → Ground → Seat → Type 0
 GivesUp schema manager before after seat = Leaves schema manager before after the_settled (λ settled aimed. taken_over seat aimed settled)
 
+-- a version's chain with another stamp of it
+abbrev pub restamped : List Version → Version → List Version → Stamp → List Version
+restamped newer v older stamp = newer ++ record v { stamp = stamp } ∷ older
+
 -- a version of an object has another stamp, in both lists
-pub record Restamps (schema : Schema) (manager : Manager) (before after : Ground) (class id : ℕ) (header : ℕ) (stamp : Stamp) : Type 0 where
-  pub lists : (settled aimed : Versions) (newer older : List Version) (v : Version) → Agrees schema manager before settled aimed →
-      chain_in settled class id ≡ newer ++ v ∷ older → v.header ≡ header →
-      Agrees schema manager after (with_chain_in settled class id (newer ++ record v { stamp = stamp } ∷ older))
-      (with_chain_in aimed class id (newer ++ record v { stamp = stamp } ∷ older))
+abbrev pub StampsVersion : Schema → Manager → Ground → Ground → ℕ → ℕ → Stamp → Type 0
+StampsVersion schema manager before after class header stamp = (settled aimed : Versions) (id : ℕ) (newer older : List Version) (v : Version) →
+    Agrees schema manager before settled aimed → chain_in settled class id ≡ newer ++ v ∷ older → v.header ≡ header →
+    Agrees schema manager after (with_chain_in settled class id (restamped newer v older stamp))
+    (with_chain_in aimed class id (restamped newer v older stamp))
+
+-- Nobody has work unfinished in a class: whoever holds its latch has neither a plan nor a pair.
+abbrev pub RestsThere : Ground → ℕ → Type 0
+RestsThere g class = EachSeat (λ slot seat. HoldsLatch seat class → (seat.hand.plan.pairs ≡ []) × (seat.hand.undo.pairs ≡ [])) g.seats
+
+-- a header of a class is written with another stamp, and no other cell
+pub record WritesStamp (schema : Schema) (before after : Ground) (class header : ℕ) (stamp : Stamp) : Type 0 where
+  pub cell : Cell
+  pub of : before.class_of header ≡ Some class
+  pub written : Writes before.image after.image header cell
+  pub settled : Writes (settled_image before) (settled_image after) header cell
+  pub classes : (n : ℕ) → after.class_of n ≡ before.class_of n
+  pub records : after.seats ≡ before.seats
+  pub restamps : Restamps (schema_class schema class) before.image after.image before.class_of header stamp
 
 -- a plan is made: the object of a class and an id will have another chain, of which this is so
 abbrev pub PlansChain : Schema → Manager → Ground → Ground → ℕ → ℕ → (List Version → List Version → Type 0) → Type 0

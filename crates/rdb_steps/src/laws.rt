@@ -1,13 +1,17 @@
 //! The laws of the steps: what each leaves of the settled versions and of those aimed at, said of the cells and the records before and after
 //! it. Their functions do nothing.
-ghost use Rattle.std.specs.Prelude.{◌≡◌, Bool, false, true};
+ghost use Rattle.std.specs.Prelude.{◌≡◌, ◌<◌, ℕ, [], length, Bool, false, true};
 ghost use Rattle.rdb_base.specs.declared.identity.ConnId.{ConnId};
 ghost use Rattle.rdb_base.specs.declared.identity.Manager.{Manager};
+ghost use Rattle.rdb_base.specs.declared.identity.Stamp.{Stamp};
 ghost use Rattle.rdb_schema.specs.declared.schema.Schema.{Schema};
+ghost use Rattle.rdb_registry.specs.declared.seat.Seat.{Seat};
+ghost use Rattle.rdb_registry.specs.Seats.{HoldsLatch, with_latches};
+ghost use Rattle.rdb_writes.specs.Changes.{ChangesLatches, Grows};
 ghost use Rattle.rdb_writes.specs.Grounds.{Ground, AreWorks, HaveOneHolder};
 ghost use Rattle.rdb_writes.specs.Steps.{WritesNext, TakesNewestBack, ends};
 ghost use Rattle.rdb_steps.specs.Kept.{IsLawful, aims, takes_back};
-ghost use Rattle.rdb_steps.specs.Lists.{KeepsLists, Settles, GivesUp, WritesLive};
+ghost use Rattle.rdb_steps.specs.Lists.{KeepsLists, Settles, GivesUp, WritesLive, ComeZero, TakesFree, RestsThere, WritesStamp, StampsVersion};
 
 /// A cell of a plan is written: both lists of versions stay. With the last cell of a plan that the undo record spans, what the connection
 /// aimed at in its classes is settled.
@@ -25,4 +29,30 @@ pub fn a_cell_taken_back_leaves_the_settled()
     ensures { (schema : Schema) (manager : Manager) (before after : Ground) (c : ConnId) → IsLawful schema
         → HaveOneHolder before.seats → AreWorks after → (back : TakesNewestBack before after c)
         → takes_back manager back.seat ≡ true → GivesUp schema manager before after back.seat }
+{}
+
+/// Cells come, all zero, as those of a granted page do: both lists of versions stay.
+pub fn cells_that_come_leave_the_lists()
+    ensures { (schema : Schema) (manager : Manager) (before after : Ground) → IsLawful schema → AreWorks before → Grows before after
+        → ComeZero before after → KeepsLists schema manager before after }
+{}
+
+/// Latches that nobody holds are taken by a connection without a plan: both lists of versions stay. Latches are given up: the settled
+/// versions stay, and what the connection aimed at is no longer spoken of.
+pub fn latches_leave_the_settled()
+    ensures taken { (schema : Schema) (manager : Manager) (before after : Ground) (slot : ℕ) (seat : Seat) (latches : ℕ) → IsLawful schema
+        → AreWorks before → ChangesLatches before after slot seat latches → seat.hand.plan.pairs ≡ [] → TakesFree before seat latches
+        → KeepsLists schema manager before after }
+    ensures given_up { (schema : Schema) (manager : Manager) (before after : Ground) (slot : ℕ) (seat : Seat) (latches : ℕ)
+        → IsLawful schema → AreWorks before → ChangesLatches before after slot seat latches
+        → ((class : ℕ) → ¬ HoldsLatch (with_latches latches seat) class) → HaveOneHolder before.seats
+        → GivesUp schema manager before after seat }
+{}
+
+/// A version's header is written with another stamp, in a class in which nobody has work unfinished: that version has that stamp in both
+/// lists.
+pub fn a_stamp_leaves_that_stamp()
+    ensures { (schema : Schema) (manager : Manager) (before after : Ground) (class header : ℕ) (stamp : Stamp) → IsLawful schema
+        → AreWorks before → RestsThere before class → WritesStamp schema before after class header stamp
+        → class < length schema.classes → StampsVersion schema manager before after class header stamp }
 {}
