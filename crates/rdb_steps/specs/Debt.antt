@@ -54,7 +54,14 @@ abbrev pub debt : Manager → Seat → ℕ → ℕ → ℕ
 debt manager seat versions pages =
     if is_some seat.condemned then repair_debt manager seat else phase_debt manager seat seat.hand.phase versions pages
 
--- the bounds of the number
+-- how many versions of the class the plan at hand drops before the operation's own
+abbrev pub dropped_before : Option Work → Hand → ℕ
+dropped_before None hand = 0
+dropped_before (Some work) hand = if is_some work.puts || is_written hand then 0 else 1
+
+-- The bounds of the number: of a repair, by the pairs and the settled own versions; of an operation in work, by the versions of its class as
+-- the writer sees them.
 pub record IsBounded (manager : Manager) (seat : Seat) (versions pages : ℕ) : Type 0 where
   pub repair : repair_debt manager seat ≤ length seat.hand.undo.pairs + 2 + version_steps * settled_own manager seat
-  pub work : work_debt seat.hand.work seat.hand versions pages ≤ max_plan + drop_steps * (versions + 1) + pages
+  pub work : (seen : ℕ) → versions + dropped_before seat.hand.work seat.hand ≤ seen
+      → work_debt seat.hand.work seat.hand versions pages ≤ drop_steps * (seen + 1) + pages

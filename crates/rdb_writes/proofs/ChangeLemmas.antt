@@ -1,6 +1,5 @@
 -- Changes that write no cell.
-use Rattle.std.proofs.Common.{◌≡◌, ◌≢◌, ◌⊎◌, ◌∷◌, ◌++◌, ℕ, List, [], set, Option, Some, None, IsSome, is_some, Bool, true, false, option_map, refl, sym, ap, subst, ◌∙◌, arith, inl, inr}
-use Rattle.std.proofs.lemmas.Bool.{false≢true}
+use Rattle.std.proofs.Common.{◌≡◌, ℕ, List, [], set, Option, Some, None, IsSome, false, option_map, refl, sym, ap, subst, ◌∙◌, arith, inl, inr}
 use Rattle.std.proofs.Permutation.{which}
 use Rattle.rdb_base.specs.declared.identity.ConnId.{ConnId}
 use Rattle.rdb_pages.specs.declared.cell.Cell.{Cell}
@@ -11,14 +10,14 @@ use Rattle.rdb_cells.proofs.PairLemmas.{content_unnamed}
 use Rattle.rdb_cells.proofs.SettledLemmas.{true_or_false, settled-same, settled-other, settled_write}
 use Rattle.rdb_registry.specs.declared.hand.Hand.{Hand}
 use Rattle.rdb_registry.specs.declared.seat.Seat.{Seat}
-use Rattle.rdb_registry.specs.Seats.{Seats, seat_in, HoldsLatch, NoneHolds, with_latches, changed}
+use Rattle.rdb_registry.specs.Seats.{Seats, seat_in, HoldsLatch, NoneHolds, with_latches}
 use Rattle.rdb_registry.proofs.SlotLemmas.{seat_in_other}
 use Rattle.rdb_registry.proofs.RecordLaws.{changed_here}
 use Rattle.rdb_writes.specs.Changes.{ChangesHand, ChangesLatches, Grows}
 use Rattle.rdb_writes.specs.Grounds.{Ground, IsLatched, WorksOn, IsWork, AreWorks, HaveOneHolder, NoneWorksOn, settled_image, aimed_image, undo_records, logged_in}
 use Rattle.rdb_writes.proofs.RecordLemmas.{none_names, settled_own}
 use Rattle.rdb_writes.proofs.SeatLemmas.{same_logged}
-use Rattle.rdb_writes.proofs.WorkLemmas.{in_its_slot, others_lack}
+use Rattle.rdb_writes.proofs.WorkLemmas.{others_lack}
 use Rattle.rdb_writes.proofs.StepLemmas.{at, seats_are, own_settled, elsewhere_settled, works_now}
 
 -- no record has a cell on which nobody works

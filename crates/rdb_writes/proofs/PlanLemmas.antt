@@ -1,17 +1,16 @@
 -- A plan by its newest pair, and the places of an undo record.
-use Rattle.std.proofs.Common.{◌≡◌, ◌≢◌, ◌||◌, ◌==◌, ◌+◌, ◌≤◌, ◌<◌, ◌⊎◌, zero, suc, ℕ, List, [], ◌∷◌, ◌++◌, length, get_or, not, Option, Some, IsSome, IsSomeAnd, slice_get, Bool, true, false, cond, refl, sym, ap, subst, ◌∙◌, arith, inl, inr, eq-eqb}
-use Rattle.std.proofs.lemmas.Bool.{ne_eqb, eqb-true}
+use Rattle.std.proofs.Common.{◌≡◌, ◌≢◌, ◌||◌, ◌==◌, ◌+◌, ◌≤◌, ◌<◌, zero, suc, ℕ, List, [], ◌∷◌, ◌++◌, length, get_or, not, IsSome, IsSomeAnd, slice_get, Bool, true, false, cond, refl, sym, ap, subst, ◌∙◌, arith, inl, inr, eq-eqb}
+use Rattle.std.proofs.lemmas.Bool.{ne_eqb}
 use Rattle.std.proofs.lemmas.List.Sums.{sum_by-append, sum_by-cons}
-use Rattle.std.specs.List.{count_by, sum_by}
-use Rattle.rdb_pages.specs.declared.cell.Cell.{Cell}
+use Rattle.std.specs.List.{count_by}
 use Rattle.rdb_cells.specs.declared.pairs.Pair.{Pair}
-use Rattle.rdb_cells.specs.Images.{Image, Writes}
+use Rattle.rdb_cells.specs.Images.{Image}
 use Rattle.rdb_cells.specs.Places.{AreDifferent}
-use Rattle.rdb_cells.specs.Records.{Record, IsRecord, names, numbers_of, Logs}
-use Rattle.rdb_cells.proofs.PairLemmas.{any_right, different-tail, different-head, named_when_appended, written_next}
+use Rattle.rdb_cells.specs.Records.{Record, names, numbers_of, Logs}
+use Rattle.rdb_cells.proofs.PairLemmas.{any_right, different-tail, different-head, named_when_appended}
 use Rattle.rdb_cells.proofs.SettledLemmas.{true_or_false}
 use Rattle.rdb_registry.specs.declared.hand.Hand.{Hand}
-use Rattle.rdb_writes.specs.Grounds.{WorksOn, HasPlaces, unlogged}
+use Rattle.rdb_writes.specs.Grounds.{WorksOn}
 use Rattle.rdb_writes.specs.Steps.{WritesPlanned}
 
 pub named_left : (ps : List Pair) (p : Pair) (n : ℕ) → names ps n ≡ true → names (ps ++ p ∷ []) n ≡ true

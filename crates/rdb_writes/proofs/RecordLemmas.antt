@@ -1,6 +1,5 @@
 -- One slot among the others, and what the undo records of all leave of a cell.
-use Rattle.std.proofs.Common.{◌≡◌, ◌≢◌, ◌||◌, ◌+◌, ◌<◌, ℕ, zero, suc, List, [], ◌∷◌, ◌++◌, set, length, map, Option, Some, None, Bool, true, false, refl, sym, ap, subst, ◌∙◌, arith}
-use Rattle.std.specs.List.{list_any}
+use Rattle.std.proofs.Common.{◌≡◌, ◌≢◌, ℕ, zero, suc, List, [], ◌∷◌, ◌++◌, set, Option, Some, None, false, refl, sym, ap, ◌∙◌, arith}
 use Rattle.rdb_cells.specs.declared.pairs.Pair.{Pair}
 use Rattle.rdb_cells.specs.Images.{Image, SameImage}
 use Rattle.rdb_cells.specs.Records.{names, taken_back, settled, NoneNames, KeepsSettled}

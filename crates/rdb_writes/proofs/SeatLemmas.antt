@@ -1,9 +1,9 @@
 -- Connections come and go.
-use Rattle.std.proofs.Common.{◌≡◌, ◌≢◌, ◌+◌, ◌≤◌, ◌⊎◌, ◌∷◌, ℕ, zero, suc, List, [], length, set, replicate, Option, Some, None, Bool, true, false, not, slice_get, refl, sym, ap, subst, ◌∙◌, arith, inl, inr}
+use Rattle.std.proofs.Common.{◌≡◌, ◌∷◌, ℕ, zero, suc, List, [], length, set, replicate, Option, Some, None, true, not, refl, sym, ap, subst, ◌∙◌, arith, inl, inr}
 use Rattle.std.proofs.Permutation.{which}
 use Rattle.std.specs.List.{count_by}
 use Rattle.rdb_cells.specs.declared.pairs.Pair.{Pair}
-use Rattle.rdb_cells.specs.Images.{Image, SameImage}
+use Rattle.rdb_cells.specs.Images.{SameImage}
 use Rattle.rdb_cells.specs.Records.{names, settled}
 use Rattle.rdb_cells.proofs.SettledLemmas.{settled-same}
 use Rattle.rdb_registry.specs.declared.hand.Hand.{Hand}

@@ -1,9 +1,9 @@
 -- What the steps on one connection's hand leave of the settled image, of the image aimed at, and of each connection's work.
-use Rattle.std.proofs.Common.{◌≡◌, ◌≢◌, ◌⊎◌, ◌==◌, ◌&&◌, ◌+◌, ◌≤◌, ◌∷◌, ◌++◌, ℕ, List, [], length, set, Option, Some, None, IsSomeAnd, Bool, true, false, cond, option_map, refl, sym, ap, subst, ◌∙◌, arith, inl, inr, eqb-true}
+use Rattle.std.proofs.Common.{◌≡◌, ◌≢◌, ◌&&◌, ◌∷◌, ◌++◌, ℕ, List, [], length, set, Option, Some, IsSomeAnd, Bool, true, false, cond, option_map, refl, sym, ap, subst, ◌∙◌, arith, inl, inr, eqb-true}
 use Rattle.rdb_base.specs.declared.identity.ConnId.{ConnId}
 use Rattle.rdb_base.specs.declared.identity.Manager.{Manager}
 use Rattle.rdb_cells.specs.declared.pairs.Pair.{Pair}
-use Rattle.rdb_cells.specs.Images.{Image, SameImage, Writes}
+use Rattle.rdb_cells.specs.Images.{SameImage, Writes}
 use Rattle.rdb_cells.specs.Records.{Record, names, planned, settled, taken_back, KeepsSettled, TakesBack}
 use Rattle.rdb_cells.proofs.SettledLemmas.{true_or_false}
 use Rattle.rdb_registry.specs.declared.hand.Hand.{Hand}
@@ -11,8 +11,8 @@ use Rattle.rdb_registry.specs.declared.seat.Seat.{Seat}
 use Rattle.rdb_registry.specs.Seats.{Seats, seat_in, seat_of, with_hand}
 use Rattle.rdb_registry.proofs.SlotLemmas.{seat_in_other, some_and_of}
 use Rattle.rdb_registry.proofs.RecordLaws.{changed_here}
-use Rattle.rdb_writes.specs.Grounds.{Ground, IsLatched, WorksOn, HasPlaces, IsWork, AreWorks, HaveOneHolder, settled_image, aimed_image, undo_records}
-use Rattle.rdb_writes.specs.Steps.{spans_one_plan, is_written, ends, ended, forgetting, Works, WritesPlanned, Reaches, WritesNext, TakesNewestBack}
+use Rattle.rdb_writes.specs.Grounds.{Ground, IsLatched, WorksOn, HasPlaces, IsWork, AreWorks, HaveOneHolder, settled_image, undo_records}
+use Rattle.rdb_writes.specs.Steps.{spans_one_plan, is_written, ends, ended, forgetting, WritesPlanned, Reaches, WritesNext, TakesNewestBack}
 use Rattle.rdb_writes.proofs.RecordLemmas.{OthersLack, settled_kept, settled_elsewhere, settled_own}
 use Rattle.rdb_writes.proofs.WorkLemmas.{in_its_slot, others_lack, unlatched, works_kept}
 use Rattle.rdb_writes.proofs.PlanLemmas.{named_left, named_last, longer_by_one, works_on_less}

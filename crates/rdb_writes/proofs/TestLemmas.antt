@@ -1,5 +1,5 @@
 -- What is so of each record, slot by slot.
-use Rattle.std.proofs.Common.{◌≡◌, ◌≢◌, ◌<◌, ◌≤◌, ◌+◌, ℕ, zero, suc, List, [], ◌∷◌, length, Option, Some, None, refl, sym, ap, ◌∙◌, arith, inl, inr}
+use Rattle.std.proofs.Common.{◌≡◌, ◌<◌, ◌≤◌, ◌+◌, ℕ, zero, suc, [], ◌∷◌, length, Some, None, sym, ap, ◌∙◌, arith, inl, inr}
 use Rattle.std.proofs.Permutation.{which}
 use Rattle.rdb_registry.specs.declared.seat.Seat.{Seat}
 use Rattle.rdb_registry.specs.Seats.{Seats, seat_in}

@@ -1,5 +1,5 @@
 -- Changes that write no cell: of one connection's hand, of its latches, and of which cells there are.
-use Rattle.std.specs.Prelude.{◌≡◌, ℕ, [], Option, Some, None, IsSome, slice_set}
+use Rattle.std.specs.Prelude.{◌≡◌, ℕ, [], Some, None, IsSome, slice_set}
 use Rattle.rdb_base.specs.declared.identity.ConnId.{ConnId}
 use Rattle.rdb_registry.specs.declared.hand.Hand.{Hand}
 use Rattle.rdb_registry.specs.declared.seat.Seat.{Seat}

@@ -1,15 +1,14 @@
 -- What each step does to the cells and to one connection's record, and what it leaves of the settled image and of the image aimed at.
-use Rattle.std.specs.Prelude.{◌≡◌, ◌≢◌, ◌∷◌, ◌++◌, ◌&&◌, ◌==◌, ℕ, List, [], length, Bool, true, false, Option, Some, None, if◌then◌else◌}
+use Rattle.std.specs.Prelude.{◌≡◌, ◌∷◌, ◌++◌, ◌&&◌, ◌==◌, ℕ, [], length, Bool, true, false, Some, if◌then◌else◌}
 use Rattle.rdb_base.specs.declared.identity.ConnId.{ConnId}
 use Rattle.rdb_base.specs.declared.identity.Manager.{Manager}
 use Rattle.rdb_base.specs.declared.identity.Manager.TheVariants as manager
-use Rattle.rdb_pages.specs.declared.cell.Cell.{Cell}
 use Rattle.rdb_cells.specs.declared.pairs.Pair.{Pair}
 use Rattle.rdb_cells.specs.Images.{Image, SameImage, Writes}
-use Rattle.rdb_cells.specs.Records.{names, planned, Logs, KeepsSettled}
+use Rattle.rdb_cells.specs.Records.{planned, Logs, KeepsSettled}
 use Rattle.rdb_registry.specs.declared.hand.Hand.{Hand}
 use Rattle.rdb_registry.specs.declared.seat.Seat.{Seat}
-use Rattle.rdb_registry.specs.Seats.{seat_in, seat_of, with_hand}
+use Rattle.rdb_registry.specs.Seats.{seat_of, with_hand}
 use Rattle.rdb_writes.specs.Grounds.{Ground, HasPlaces, IsLatched, settled_image, aimed_image}
 
 -- an undo record spans one plan, and not a whole transaction

@@ -1,4 +1,4 @@
-use Rattle.std.proofs.Common.{◌-◌, length, refl, inl, arith, subst, IsSomeAnd, ◌<◌}
+use Rattle.std.proofs.Common.{◌-◌, length, refl, inl, arith, ◌<◌}
 use Rattle.rdb_registry.specs.Seats.{with_hand}
 use Rattle.rdb_writes.specs.Grounds.{ground}
 use Rattle.rdb_writes.proofs.PlanLemmas.{pair_at}

@@ -1,5 +1,4 @@
-use Rattle.std.proofs.Common.{◌≡◌, ◌+◌, ◌≤◌, [], ◌∷◌, ◌++◌, List, length, refl, sym, ap, subst, ◌∙◌}
-use Rattle.rdb_cells.specs.declared.pairs.Pair.{Pair}
+use Rattle.std.proofs.Common.{◌+◌, ◌≤◌, length, refl, sym, ap, subst, ◌∙◌}
 use Rattle.rdb_cells.specs.Places.{AreDifferent}
 use Rattle.rdb_cells.specs.Records.{Record, numbers_of, planned}
 use Rattle.rdb_cells.proofs.PairLemmas.{written_next}
