@@ -2,3 +2,4 @@ pub mod ListLemmas
 pub mod GrantLemmas
 pub mod LatchLemmas
 pub mod StampLemmas
+pub mod PlanLemmas

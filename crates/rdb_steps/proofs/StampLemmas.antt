@@ -19,19 +19,19 @@ use Rattle.rdb_steps.specs.Lists.{StampsVersion, RestsThere, WritesStamp, restam
 use Rattle.rdb_steps.proofs.ListLemmas.{holds_same, class_is}
 
 -- one class's objects written
-set_here : (versions : Versions) (class : ℕ) (objects : List Object) → class < length versions → objects_in (set versions class objects) class ≡ objects
+pub set_here : (versions : Versions) (class : ℕ) (objects : List Object) → class < length versions → objects_in (set versions class objects) class ≡ objects
 set_here [] class objects within = absurd (omega (arith, within))
 set_here (o ∷ os) zero objects within = refl
 set_here (o ∷ os) (suc class) objects within = set_here os class objects (omega (arith, within))
 
-set_elsewhere : (versions : Versions) (class other : ℕ) (objects : List Object) → other ≢ class → objects_in (set versions class objects) other ≡ objects_in versions other
+pub set_elsewhere : (versions : Versions) (class other : ℕ) (objects : List Object) → other ≢ class → objects_in (set versions class objects) other ≡ objects_in versions other
 set_elsewhere [] class other objects ne = refl
 set_elsewhere (o ∷ os) zero zero objects ne = absurd (ne refl)
 set_elsewhere (o ∷ os) zero (suc other) objects ne = refl
 set_elsewhere (o ∷ os) (suc class) zero objects ne = refl
 set_elsewhere (o ∷ os) (suc class) (suc other) objects ne = set_elsewhere os class other objects (λ e. ne (ap suc e))
 
-set_length : (versions : Versions) (class : ℕ) (objects : List Object) → length (set versions class objects) ≡ length versions
+pub set_length : (versions : Versions) (class : ℕ) (objects : List Object) → length (set versions class objects) ≡ length versions
 set_length [] class objects = refl
 set_length (o ∷ os) zero objects = refl
 set_length (o ∷ os) (suc class) objects = ap suc (set_length os class objects)

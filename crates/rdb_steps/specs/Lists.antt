@@ -1,20 +1,24 @@
 -- What a step leaves of the two lists of versions: the settled ones and those aimed at.
-use Rattle.std.specs.Prelude.{◌≡◌, ◌+◌, ◌==◌, ◌∷◌, ◌++◌, ℕ, List, [], false, Some, None, IsSome, if◌then◌else◌}
+use Rattle.std.specs.Prelude.{◌≡◌, ◌+◌, ◌==◌, ◌∷◌, ◌++◌, ℕ, List, [], false, true, Some, None, IsSome, if◌then◌else◌}
 use Rattle.std.specs.Int.{bit_at}
+use Rattle.rdb_base.specs.declared.identity.ConnId.{ConnId}
 use Rattle.rdb_base.specs.declared.identity.Manager.{Manager}
 use Rattle.rdb_base.specs.declared.identity.Stamp.{Stamp}
 use Rattle.rdb_schema.specs.declared.schema.Schema.{Schema}
 use Rattle.rdb_pages.specs.declared.cell.Cell.{Cell}
 use Rattle.rdb_pages.specs.Pages.{zero_cell}
 use Rattle.rdb_cells.specs.Images.{Writes}
+use Rattle.rdb_cells.specs.Records.{names, planned}
+use Rattle.rdb_registry.specs.declared.hand.Hand.{Hand}
 use Rattle.rdb_registry.specs.declared.seat.Seat.{Seat}
 use Rattle.rdb_registry.specs.Seats.{EachSeat, HoldsLatch, NoneHolds, with_latches}
-use Rattle.rdb_sight.specs.Versions.{Version, Versions, objects_in, chain_in, with_chain_in}
+use Rattle.rdb_sight.specs.Versions.{Version, Object, Versions, objects_in, chain_of, chain_in, with_chain, with_chain_in}
 use Rattle.rdb_store.specs.Plans.{Restamps}
 use Rattle.rdb_store.specs.Shapes.{schema_class}
+use Rattle.rdb_writes.specs.Changes.{ChangesHand}
 use Rattle.rdb_writes.specs.Grounds.{Ground, settled_image}
 use Rattle.rdb_writes.specs.Steps.{spans_one_plan}
-use Rattle.rdb_steps.specs.Kept.{Agrees, takes_back}
+use Rattle.rdb_steps.specs.Kept.{Agrees, HoldsClass, aims, takes_back}
 
 -- whatever versions are settled and aimed at before, afterwards these are
 abbrev pub Leaves : Schema → Manager → Ground → Ground → (Versions → Versions → Versions) → (Versions → Versions → Versions) → Type 0
@@ -88,8 +92,21 @@ pub record WritesStamp (schema : Schema) (before after : Ground) (class header :
   pub records : after.seats ≡ before.seats
   pub restamps : Restamps (schema_class schema class) before.image after.image before.class_of header stamp
 
--- a plan is made: the object of a class and an id will have another chain, of which this is so
-abbrev pub PlansChain : Schema → Manager → Ground → Ground → ℕ → ℕ → (List Version → List Version → Type 0) → Type 0
-PlansChain schema manager before after class id IsNext = (settled aimed : Versions) (chain : List Version) →
-    Agrees schema manager before settled aimed → IsNext (chain_in aimed class id) chain →
-    Agrees schema manager after settled (with_chain_in aimed class id chain)
+-- A connection without a plan, whose aims are spoken of, has one for a class whose latch it holds. It has cells of that class alone, and leads
+-- from whatever the class's cells hold, where one object has this chain, to the same with another chain of that object.
+pub record LaysPlan (schema : Schema) (manager : Manager) (before after : Ground) (c : ConnId) (seat : Seat) (hand : Hand) (class id : ℕ)
+    (was chain : List Version) : Type 0 where
+  pub changes : ChangesHand before after c seat hand
+  pub undo : hand.undo.pairs ≡ seat.hand.undo.pairs
+  pub had_none : seat.hand.plan.pairs ≡ []
+  pub aimed : aims manager seat ≡ true
+  pub aims : aims manager (record seat { hand = hand }) ≡ true
+  pub latch : HoldsLatch seat class
+  pub only : (n : ℕ) → names hand.plan.pairs n ≡ true → before.class_of n ≡ Some class
+  pub leads : (objects : List Object) → HoldsClass schema before before.image class objects → chain_of objects id ≡ was
+      → HoldsClass schema before (planned hand.plan.pairs before.image) class (with_chain objects id chain)
+
+-- the object of a class and an id, which has this chain, will have another; the settled versions stay
+abbrev pub AimsAtChain : Schema → Manager → Ground → Ground → ℕ → ℕ → List Version → List Version → Type 0
+AimsAtChain schema manager before after class id was chain = (settled aimed : Versions) → Agrees schema manager before settled aimed →
+    chain_in aimed class id ≡ was → Agrees schema manager after settled (with_chain_in aimed class id chain)

@@ -1,17 +1,19 @@
 //! The laws of the steps: what each leaves of the settled versions and of those aimed at, said of the cells and the records before and after
 //! it. Their functions do nothing.
-ghost use Rattle.std.specs.Prelude.{◌≡◌, ◌<◌, ℕ, [], length, Bool, false, true};
+ghost use Rattle.std.specs.Prelude.{◌≡◌, ◌<◌, ℕ, List, [], length, Bool, false, true};
 ghost use Rattle.rdb_base.specs.declared.identity.ConnId.{ConnId};
 ghost use Rattle.rdb_base.specs.declared.identity.Manager.{Manager};
 ghost use Rattle.rdb_base.specs.declared.identity.Stamp.{Stamp};
 ghost use Rattle.rdb_schema.specs.declared.schema.Schema.{Schema};
+ghost use Rattle.rdb_registry.specs.declared.hand.Hand.{Hand};
 ghost use Rattle.rdb_registry.specs.declared.seat.Seat.{Seat};
 ghost use Rattle.rdb_registry.specs.Seats.{HoldsLatch, with_latches};
+ghost use Rattle.rdb_sight.specs.Versions.{Version};
 ghost use Rattle.rdb_writes.specs.Changes.{ChangesLatches, Grows};
 ghost use Rattle.rdb_writes.specs.Grounds.{Ground, AreWorks, HaveOneHolder};
 ghost use Rattle.rdb_writes.specs.Steps.{WritesNext, TakesNewestBack, ends};
 ghost use Rattle.rdb_steps.specs.Kept.{IsLawful, aims, takes_back};
-ghost use Rattle.rdb_steps.specs.Lists.{KeepsLists, Settles, GivesUp, WritesLive, ComeZero, TakesFree, RestsThere, WritesStamp, StampsVersion};
+ghost use Rattle.rdb_steps.specs.Lists.{KeepsLists, Settles, GivesUp, WritesLive, ComeZero, TakesFree, RestsThere, WritesStamp, StampsVersion, LaysPlan, AimsAtChain};
 
 /// A cell of a plan is written: both lists of versions stay. With the last cell of a plan that the undo record spans, what the connection
 /// aimed at in its classes is settled.
@@ -55,4 +57,12 @@ pub fn a_stamp_leaves_that_stamp()
     ensures { (schema : Schema) (manager : Manager) (before after : Ground) (class header : ℕ) (stamp : Stamp) → IsLawful schema
         → AreWorks before → RestsThere before class → WritesStamp schema before after class header stamp
         → class < length schema.classes → StampsVersion schema manager before after class header stamp }
+{}
+
+/// A plan is made: the settled versions stay, and its connection aims at what the plan leads to.
+pub fn a_plan_aims_where_it_leads()
+    ensures { (schema : Schema) (manager : Manager) (before after : Ground) (c : ConnId) (seat : Seat) (hand : Hand) (class id : ℕ)
+        (was chain : List Version) → IsLawful schema → HaveOneHolder before.seats → AreWorks before
+        → LaysPlan schema manager before after c seat hand class id was chain → class < length schema.classes
+        → AimsAtChain schema manager before after class id was chain }
 {}
