@@ -3,3 +3,4 @@ pub mod GrantLemmas
 pub mod LatchLemmas
 pub mod StampLemmas
 pub mod PlanLemmas
+pub mod HandLemmas

@@ -74,7 +74,7 @@ held_or_not seat class = elim (true_or_false (bit_at seat.latches class == 1)) [
 pub class_is : (o : Option ℕ) (a b : ℕ) → o ≡ Some a → o ≡ Some b → a ≡ b
 class_is o a b e f = let same : Some a ≡ Some b = sym e ∙ f in cc
 
-unlatched_class : (g : Ground) (seat : Seat) (class n : ℕ) → ¬ HoldsLatch seat class → g.class_of n ≡ Some class → ¬ IsLatched g seat n
+pub unlatched_class : (g : Ground) (seat : Seat) (class n : ℕ) → ¬ HoldsLatch seat class → g.class_of n ≡ Some class → ¬ IsLatched g seat n
 unlatched_class g seat class n free of latched = free (subst (λ (k : ℕ). HoldsLatch seat k) (class_is (g.class_of n) latched.0 class latched.1 of) latched.2)
 
 -- whether aims are spoken of, before and after a step

@@ -2,3 +2,4 @@ pub mod Kept
 pub mod Phases
 pub mod Lists
 pub mod Debt
+pub mod States

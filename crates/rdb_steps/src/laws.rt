@@ -9,7 +9,7 @@ ghost use Rattle.rdb_registry.specs.declared.hand.Hand.{Hand};
 ghost use Rattle.rdb_registry.specs.declared.seat.Seat.{Seat};
 ghost use Rattle.rdb_registry.specs.Seats.{HoldsLatch, with_latches};
 ghost use Rattle.rdb_sight.specs.Versions.{Version};
-ghost use Rattle.rdb_writes.specs.Changes.{ChangesLatches, Grows};
+ghost use Rattle.rdb_writes.specs.Changes.{ChangesHand, ChangesLatches, Grows};
 ghost use Rattle.rdb_writes.specs.Grounds.{Ground, AreWorks, HaveOneHolder};
 ghost use Rattle.rdb_writes.specs.Steps.{WritesNext, TakesNewestBack, ends};
 ghost use Rattle.rdb_steps.specs.Kept.{IsLawful, aims, takes_back};
@@ -65,4 +65,21 @@ pub fn a_plan_aims_where_it_leads()
         (was chain : List Version) → IsLawful schema → HaveOneHolder before.seats → AreWorks before
         → LaysPlan schema manager before after c seat hand class id was chain → class < length schema.classes
         → AimsAtChain schema manager before after class id was chain }
+{}
+
+/// A connection's undo record is emptied as its commit is marked, and it has no plan: what it aimed at in its classes is settled, under
+/// MURSIW in every class at once, and under MVCC in none.
+pub fn a_mark_settles_what_was_aimed_at()
+    ensures { (schema : Schema) (manager : Manager) (before after : Ground) (c : ConnId) (seat : Seat) (hand : Hand) → IsLawful schema
+        → HaveOneHolder before.seats → AreWorks before → ChangesHand before after c seat hand → hand.plan.pairs ≡ []
+        → seat.hand.plan.pairs ≡ [] → hand.undo.pairs ≡ [] → aims manager seat ≡ true → Settles schema manager before after seat }
+{}
+
+/// What is left of a plan is given up by a connection that takes back what it wrote: the settled versions stay, and what it aimed at is no
+/// longer spoken of.
+pub fn a_plan_given_up_leaves_the_settled()
+    ensures { (schema : Schema) (manager : Manager) (before after : Ground) (c : ConnId) (seat : Seat) (hand : Hand) → IsLawful schema
+        → HaveOneHolder before.seats → AreWorks before → ChangesHand before after c seat hand → hand.plan.pairs ≡ []
+        → hand.undo.pairs ≡ seat.hand.undo.pairs → aims manager (record seat { hand = hand }) ≡ false
+        → GivesUp schema manager before after seat }
 {}

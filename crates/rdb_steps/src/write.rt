@@ -1,5 +1,11 @@
 //! The next cell of a plan is written. It changes one cell, its undo record, and what is left of the plan.
 
+ghost use Rattle.std.specs.Prelude.{◌≡◌, ◌<◌, length, IsSomeAnd};
+ghost use Rattle.rdb_registry.specs.Seats.{seat_of};
+ghost use Rattle.rdb_steps.specs.States.{ground_in};
+ghost use Rattle.rdb_writes.specs.Grounds.{AreWorks};
+ghost use Rattle.rdb_writes.specs.Steps.{WritesNext};
+
 use crate::state::State;
 use rdb_base::identity::ConnId;
 use rdb_pages::{CellRef, Pages};
@@ -8,7 +14,16 @@ use rdb_writes::write_next;
 impl<P: Pages> State<P> {
     // Writes the next cell of a connection's plan, which isn't empty. Returns whether that was the last one. The cost is constant, but at
     // the last cell, where it grows with the plan.
-    fn write_next(&mut self, c: ConnId) -> bool {
+    fn write_next(&mut self, c: ConnId) -> bool
+        requires works { AreWorks (ground_in self.old.memory self.old.registry) }
+        requires plan { IsSomeAnd (seat_of self.old.registry.seats c) (λ seat. 0 < length seat.hand.plan.pairs) }
+        ensures written { WritesNext self.old.manager (ground_in self.old.memory self.old.registry)
+            (ground_in self.new.memory self.new.registry) c result }
+        ensures works { AreWorks (ground_in self.new.memory self.new.registry) }
+        ensures owners { self.new.memory.owners ≡ self.old.memory.owners }
+        ensures rest { self.new ≡ record self.old
+            { memory = self.new.memory; registry = record self.old.registry { seats = self.new.registry.seats } } }
+    {
         write_next(&mut self.memory, &mut self.registry, self.manager, c)
     }
 
