@@ -4,3 +4,4 @@ pub mod LatchLemmas
 pub mod StampLemmas
 pub mod PlanLemmas
 pub mod HandLemmas
+pub mod OwnLemmas

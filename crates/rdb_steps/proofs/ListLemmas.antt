@@ -1,6 +1,6 @@
 -- What the writes of connections leave of the settled versions and of those aimed at.
 use Rattle.std.proofs.Common.{◌≡◌, ◌≢◌, ◌⊎◌, ◌<◌, ◌+◌, ◌==◌, ◌&&◌, ◌||◌, ◌∷◌, ◌++◌, ℕ, zero, suc, List, [], length, Bool, true, false, not, cond, Option, Some, None, is_none, option_map, refl, sym, ap, subst, ◌∙◌, arith, inl, inr, eq-eqb, eqb-true, slice_index_or}
-use Rattle.std.proofs.lemmas.Bool.{false≢true}
+use Rattle.std.proofs.lemmas.Bool.{false≢true, ne_eqb}
 use Rattle.std.proofs.Permutation.{which}
 use Rattle.std.specs.Int.{bit_at}
 use Rattle.rdb_base.specs.declared.identity.ConnId.{ConnId}
@@ -18,6 +18,7 @@ use Rattle.rdb_registry.proofs.RecordLaws.{changed_here}
 use Rattle.rdb_sight.specs.Versions.{Object, Versions, objects_in}
 use Rattle.rdb_writes.specs.Grounds.{Ground, IsLatched, AreWorks, HaveOneHolder, settled_image, aimed_image}
 use Rattle.rdb_writes.specs.Steps.{Works, WritesNext, TakesNewestBack, spans_one_plan, is_written, ends, ended}
+use Rattle.rdb_writes.proofs.PlanLemmas.{longer_by_one}
 use Rattle.rdb_writes.proofs.WorkLemmas.{in_its_slot}
 use Rattle.rdb_steps.specs.Kept.{IsLawful, HoldsClass, Agrees, AimsAt, IsUnaimed, aims, takes_back, is_dropping}
 use Rattle.rdb_steps.specs.Lists.{KeepsLists, Settles, GivesUp, WritesLive, taken_over, taken_over_from}
@@ -88,8 +89,7 @@ silent_before false spans b t goes_on live e = e
 silent_before true spans b t goes_on live e = absurd (false≢true (sym e ∙ live goes_on))
 
 not_written : (ps : List Pair) (p : Pair) → (length (ps ++ p ∷ []) == 0) ≡ false
-not_written [] p = refl
-not_written (q ∷ ps) p = refl
+not_written ps p = let longer = longer_by_one ps p in ne_eqb (length (ps ++ p ∷ [])) 0 (λ e. omega (arith, e, longer))
 
 not_false : (b : Bool) → b ≡ false → not b ≡ true
 not_false b e = ap not e

@@ -73,8 +73,8 @@ module _ (schema : Schema) (manager : Manager) (before after : Ground) (class he
 
   pub stamped_lists : StampsVersion schema manager before after class header stamp
   stamped_lists settled aimed id newer older v agrees chain is =
-      let within_settled = omega (arith, here, agrees.stands.count) in
-      let within_aimed = omega (arith, here, agrees.rest.count) in
+      let within_settled : class < length settled = omega (arith, here, agrees.stands.count) in
+      let within_aimed : class < length aimed = omega (arith, here, agrees.rest.count) in
       let chain_now = restamped newer v older stamp in
       record {
         works = works_after;

@@ -94,13 +94,13 @@ owns_settled manager seat = spans_one_plan manager || (is_marked seat || (takes_
 -- the own writes of each record are those of its transaction's versions that are settled; of a live writer under MURSIW, outside a plan,
 -- those of the versions that it has made
 pub record OwnAre (manager : Manager) (seat : Seat) (settled aimed : Versions) : Type 0 where
-  pub settled : owns_settled manager seat ≡ true → Owns seat settled
-  pub made : owns_settled manager seat ≡ false → takes_back manager seat ≡ false → is_written seat.hand ≡ true → Owns seat aimed
+  pub are_settled : owns_settled manager seat ≡ true → Owns seat settled
+  pub are_made : owns_settled manager seat ≡ false → takes_back manager seat ≡ false → is_written seat.hand ≡ true → Owns seat aimed
 
 -- no version has a serial above those that were drawn, and no object an id above those of its class
-pub record Drawn (serials : ℕ) (ids : List ℕ) (versions : Versions) : Type 0 where
-  pub serials : (class : ℕ) → (v : Version) → HasVersion (objects_in versions class) v → v.serial ≤ serials
-  pub ids : (class id : ℕ) → chain_in versions class id ≢ [] → id ≤ slice_index ids class
+pub record AreDrawn (serials : ℕ) (ids : List ℕ) (versions : Versions) : Type 0 where
+  pub each_serial : (class : ℕ) (v : Version) → HasVersion (objects_in versions class) v → v.serial ≤ serials
+  pub each_id : (class id : ℕ) → chain_in versions class id ≢ [] → id ≤ slice_index ids class
 
 -- The cells and the work of each connection agree with the two lists of versions.
 pub record Agrees (schema : Schema) (manager : Manager) (g : Ground) (settled aimed : Versions) : Type 0 where

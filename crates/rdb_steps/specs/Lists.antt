@@ -1,6 +1,7 @@
 -- What a step leaves of the two lists of versions: the settled ones and those aimed at.
-use Rattle.std.specs.Prelude.{◌≡◌, ◌+◌, ◌==◌, ◌∷◌, ◌++◌, ℕ, List, [], false, true, Some, None, IsSome, if◌then◌else◌}
+use Rattle.std.specs.Prelude.{◌≡◌, ◌≢◌, ◌+◌, ◌==◌, ◌∷◌, ◌++◌, ℕ, List, [], false, true, Some, None, IsSome, if◌then◌else◌}
 use Rattle.std.specs.Int.{bit_at}
+use Rattle.std.specs.Option.{option_map}
 use Rattle.rdb_base.specs.declared.identity.ConnId.{ConnId}
 use Rattle.rdb_base.specs.declared.identity.Manager.{Manager}
 use Rattle.rdb_base.specs.declared.identity.Stamp.{Stamp}
@@ -11,14 +12,17 @@ use Rattle.rdb_cells.specs.Images.{Writes}
 use Rattle.rdb_cells.specs.Records.{names, planned}
 use Rattle.rdb_registry.specs.declared.hand.Hand.{Hand}
 use Rattle.rdb_registry.specs.declared.seat.Seat.{Seat}
+use Rattle.rdb_registry.specs.declared.seat.Transaction.{Transaction}
+use Rattle.rdb_registry.specs.OwnWrites.{header_of}
 use Rattle.rdb_registry.specs.Seats.{EachSeat, HoldsLatch, NoneHolds, with_latches}
-use Rattle.rdb_sight.specs.Versions.{Version, Object, Versions, objects_in, chain_of, chain_in, with_chain, with_chain_in}
+use Rattle.rdb_sight.specs.Versions.{Version, Object, Versions, objects_in, chain_of, chain_in, with_chain, with_chain_in, own_version}
 use Rattle.rdb_store.specs.Plans.{Restamps}
 use Rattle.rdb_store.specs.Shapes.{schema_class}
+use Rattle.rdb_store.specs.Stored.{ref_of}
 use Rattle.rdb_writes.specs.Changes.{ChangesHand}
 use Rattle.rdb_writes.specs.Grounds.{Ground, settled_image}
 use Rattle.rdb_writes.specs.Steps.{spans_one_plan}
-use Rattle.rdb_steps.specs.Kept.{Agrees, HoldsClass, aims, takes_back}
+use Rattle.rdb_steps.specs.Kept.{Agrees, HoldsClass, aims, takes_back, tx_of}
 
 -- whatever versions are settled and aimed at before, afterwards these are
 abbrev pub Leaves : Schema → Manager → Ground → Ground → (Versions → Versions → Versions) → (Versions → Versions → Versions) → Type 0
@@ -110,3 +114,12 @@ pub record LaysPlan (schema : Schema) (manager : Manager) (before after : Ground
 abbrev pub AimsAtChain : Schema → Manager → Ground → Ground → ℕ → ℕ → List Version → List Version → Type 0
 AimsAtChain schema manager before after class id was chain = (settled aimed : Versions) → Agrees schema manager before settled aimed →
     chain_in aimed class id ≡ was → Agrees schema manager after settled (with_chain_in aimed class id chain)
+
+-- A record's own writes follow its transaction's versions as the object of a class and an id has this chain: they have of that object what
+-- the chain has of the transaction, and of others what they had.
+pub record OwnFollow (seat now : Seat) (class id : ℕ) (chain : List Version) : Type 0 where
+  pub conn : now.conn ≡ seat.conn
+  pub transaction : now.transaction ≡ seat.transaction
+  pub here : (t : Transaction) → seat.transaction ≡ Some t
+      → header_of now.hand.own.items (class, id) ≡ option_map ref_of (own_version (tx_of seat t) chain)
+  pub others : (object : ℕ × ℕ) → object ≢ (class, id) → header_of now.hand.own.items object ≡ header_of seat.hand.own.items object

@@ -8,12 +8,12 @@ ghost use Rattle.rdb_schema.specs.declared.schema.Schema.{Schema};
 ghost use Rattle.rdb_registry.specs.declared.hand.Hand.{Hand};
 ghost use Rattle.rdb_registry.specs.declared.seat.Seat.{Seat};
 ghost use Rattle.rdb_registry.specs.Seats.{HoldsLatch, with_latches};
-ghost use Rattle.rdb_sight.specs.Versions.{Version};
+ghost use Rattle.rdb_sight.specs.Versions.{Version, Versions, IsAscending, objects_in, with_chain_in};
 ghost use Rattle.rdb_writes.specs.Changes.{ChangesHand, ChangesLatches, Grows};
 ghost use Rattle.rdb_writes.specs.Grounds.{Ground, AreWorks, HaveOneHolder};
 ghost use Rattle.rdb_writes.specs.Steps.{WritesNext, TakesNewestBack, ends};
-ghost use Rattle.rdb_steps.specs.Kept.{IsLawful, aims, takes_back};
-ghost use Rattle.rdb_steps.specs.Lists.{KeepsLists, Settles, GivesUp, WritesLive, ComeZero, TakesFree, RestsThere, WritesStamp, StampsVersion, LaysPlan, AimsAtChain};
+ghost use Rattle.rdb_steps.specs.Kept.{IsLawful, Owns, aims, takes_back};
+ghost use Rattle.rdb_steps.specs.Lists.{KeepsLists, Settles, GivesUp, WritesLive, ComeZero, TakesFree, RestsThere, WritesStamp, StampsVersion, LaysPlan, AimsAtChain, OwnFollow};
 
 /// A cell of a plan is written: both lists of versions stay. With the last cell of a plan that the undo record spans, what the connection
 /// aimed at in its classes is settled.
@@ -82,4 +82,12 @@ pub fn a_plan_given_up_leaves_the_settled()
         → HaveOneHolder before.seats → AreWorks before → ChangesHand before after c seat hand → hand.plan.pairs ≡ []
         → hand.undo.pairs ≡ seat.hand.undo.pairs → aims manager (record seat { hand = hand }) ≡ false
         → GivesUp schema manager before after seat }
+{}
+
+/// A record's own writes are its transaction's versions still, where they follow them as one object has another chain: so they do where a
+/// version is put, dropped or stamped, the record's own or another's.
+pub fn own_writes_follow_the_versions()
+    ensures { (seat now : Seat) (versions : Versions) (class id : ℕ) (chain : List Version) → class < length versions
+        → IsAscending (objects_in versions class) → OwnFollow seat now class id chain → Owns seat versions
+        → Owns now (with_chain_in versions class id chain) }
 {}
