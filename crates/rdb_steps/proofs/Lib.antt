@@ -5,3 +5,5 @@ pub mod StampLemmas
 pub mod PlanLemmas
 pub mod HandLemmas
 pub mod OwnLemmas
+pub mod PhaseLemmas
+pub mod DebtLemmas

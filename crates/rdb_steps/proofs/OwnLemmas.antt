@@ -22,7 +22,7 @@ chain_now versions class id chain within ascending =
 pub chain_of_other_id : (versions : Versions) (class id other : ℕ) (chain : List Version) → class < length versions → IsAscending (objects_in versions class) → other ≢ id → chain_in (with_chain_in versions class id chain) class other ≡ chain_in versions class other
 chain_of_other_id versions class id other chain within ascending ne =
     ap (λ (objects : List Object). chain_of objects other) (set_here versions class (with_chain (objects_in versions class) id chain) within)
-    ∙ chain_other (objects_in versions class) id other chain (ne_eqb id other (λ e. ne (sym e))) (rises_from (objects_in versions class) ascending)
+    ∙ chain_other (objects_in versions class) id other chain (ne_eqb id other (λ e. ne (sym e)))
 
 pub chain_of_other_class : (versions : Versions) (class id other_class other : ℕ) (chain : List Version) → other_class ≢ class → chain_in (with_chain_in versions class id chain) other_class other ≡ chain_in versions other_class other
 chain_of_other_class versions class id other_class other chain ne =

@@ -1,10 +1,11 @@
 //! The laws of the steps: what each leaves of the settled versions and of those aimed at, said of the cells and the records before and after
 //! it. Their functions do nothing.
-ghost use Rattle.std.specs.Prelude.{◌≡◌, ◌<◌, ℕ, List, [], length, Bool, false, true};
+ghost use Rattle.std.specs.Prelude.{◌≡◌, ◌<◌, ◌≤◌, ℕ, List, [], length, Bool, false, true, None};
 ghost use Rattle.rdb_base.specs.declared.identity.ConnId.{ConnId};
 ghost use Rattle.rdb_base.specs.declared.identity.Manager.{Manager};
 ghost use Rattle.rdb_base.specs.declared.identity.Stamp.{Stamp};
 ghost use Rattle.rdb_schema.specs.declared.schema.Schema.{Schema};
+ghost use Rattle.rdb_cells.specs.Records.{max_plan};
 ghost use Rattle.rdb_registry.specs.declared.hand.Hand.{Hand};
 ghost use Rattle.rdb_registry.specs.declared.seat.Seat.{Seat};
 ghost use Rattle.rdb_registry.specs.Seats.{HoldsLatch, with_latches};
@@ -12,7 +13,9 @@ ghost use Rattle.rdb_sight.specs.Versions.{Version, Versions, IsAscending, objec
 ghost use Rattle.rdb_writes.specs.Changes.{ChangesHand, ChangesLatches, Grows};
 ghost use Rattle.rdb_writes.specs.Grounds.{Ground, AreWorks, HaveOneHolder};
 ghost use Rattle.rdb_writes.specs.Steps.{WritesNext, TakesNewestBack, ends};
-ghost use Rattle.rdb_steps.specs.Kept.{IsLawful, Owns, aims, takes_back};
+ghost use Rattle.rdb_steps.specs.Kept.{IsLawful, Owns, aims, is_dropping, takes_back};
+ghost use Rattle.rdb_steps.specs.Debt.{IsBounded, settled_own};
+ghost use Rattle.rdb_steps.specs.Phases.{Rests};
 ghost use Rattle.rdb_steps.specs.Lists.{KeepsLists, Settles, GivesUp, WritesLive, ComeZero, TakesFree, RestsThere, WritesStamp, StampsVersion, LaysPlan, AimsAtChain, OwnFollow};
 
 /// A cell of a plan is written: both lists of versions stay. With the last cell of a plan that the undo record spans, what the connection
@@ -90,4 +93,18 @@ pub fn own_writes_follow_the_versions()
     ensures { (seat now : Seat) (versions : Versions) (class id : ℕ) (chain : List Version) → class < length versions
         → IsAscending (objects_in versions class) → OwnFollow seat now class id chain → Owns seat versions
         → Owns now (with_chain_in versions class id chain) }
+{}
+
+/// Who writes a plan and isn't condemned takes nothing back, and what it aims at is spoken of.
+pub fn a_live_writer_aims()
+    ensures back { (manager : Manager) (classes : ℕ) (seat : Seat) → Rests manager classes seat → seat.condemned ≡ None
+        → ¬ (seat.hand.plan.pairs ≡ []) → takes_back manager seat ≡ false }
+    ensures spoken { (manager : Manager) (classes : ℕ) (seat : Seat) → Rests manager classes seat → seat.condemned ≡ None
+        → ¬ (seat.hand.plan.pairs ≡ []) → aims manager seat ≡ true }
+{}
+
+/// The number of steps that are left has its bounds, where a drop is planned only of a settled version of one's own.
+pub fn debt_is_bounded()
+    ensures { (manager : Manager) (seat : Seat) (versions pages : ℕ) → length seat.hand.plan.pairs ≤ max_plan
+        → (is_dropping seat.hand ≡ true → 0 < settled_own manager seat) → IsBounded manager seat versions pages }
 {}
