@@ -32,9 +32,9 @@ chain_of_other_class versions class id other_class other chain ne =
 pub object_is : (a b c d : ℕ) → ((a ≡ c) × (b ≡ d)) ⊎ ((a, b) ≢ (c, d))
 object_is a b c d = elim (which a c) [
   | inl class ↦ elim (which b d) [
-      | inl id ↦ inl (class, id)
-      | inr ne ↦ inr (λ e. ne (ap (λ (p : ℕ × ℕ). p.1) e))
-    ]
+    | inl id ↦ inl (class, id)
+    | inr ne ↦ inr (λ e. ne (ap (λ (p : ℕ × ℕ). p.1) e))
+  ]
   | inr ne ↦ inr (λ e. ne (ap (λ (p : ℕ × ℕ). p.0) e))
 ]
 

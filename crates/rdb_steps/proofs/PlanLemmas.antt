@@ -104,7 +104,7 @@ module _ (schema : Schema) (manager : Manager) (before after : Ground) (c : Conn
       count = set_length aimed class (with_chain (objects_in aimed class) id chain) ∙ agrees.rest.count;
       same = λ other within unaimed.
           let ne : other ≢ class = λ same.
-              false≢true (sym (unaimed c.slot (record seat { hand = hand }) at_now (subst (λ (k : ℕ). HoldsLatch seat k) (sym same) lays.latch)) ∙ lays.aims) in
+          false≢true (sym (unaimed c.slot (record seat { hand = hand }) at_now (subst (λ (k : ℕ). HoldsLatch seat k) (sym same) lays.latch)) ∙ lays.aims) in
           set_elsewhere aimed class other (with_chain (objects_in aimed class) id chain) ne
           ∙ agrees.rest.same other within (λ i s there held. elim (which i c.slot) [
             | inl same ↦

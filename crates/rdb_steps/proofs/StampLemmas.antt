@@ -138,10 +138,10 @@ module _ (schema : Schema) (manager : Manager) (before after : Ground) (class he
       own_aim settled aimed agrees id newer older v chain is i s there speaks held =
           let empty = (rests i s there held).0 in
           let aimed_there : HoldsClass schema before before.image class (objects_in aimed class) =
-              holds_same schema lawful before before (aimed_image before s.hand) before.image class (objects_in aimed class) here (λ n. refl)
-              (λ n of. sym (ap (λ (ps : List Pair). planned ps before.image n) empty)) (agrees.aims i s there speaks class here held) in
+          holds_same schema lawful before before (aimed_image before s.hand) before.image class (objects_in aimed class) here (λ n. refl)
+          (λ n of. sym (ap (λ (ps : List Pair). planned ps before.image n) empty)) (agrees.aims i s there speaks class here held) in
           let one_list : objects_in settled class ≡ objects_in aimed class =
-              (lawful class here).one before.image before.class_of (objects_in settled class) (objects_in aimed class) (standing settled aimed agrees) aimed_there in
+          (lawful class here).one before.image before.class_of (objects_in settled class) (objects_in aimed class) (standing settled aimed agrees) aimed_there in
           subst (λ (objects : List Object). HoldsClass schema after (aimed_image after s.hand) class objects)
           (sym (set_here aimed class (with_chain (objects_in aimed class) id (restamped newer v older stamp)) (omega (arith, here, agrees.rest.count))))
           (holds_same schema lawful after after after.image (aimed_image after s.hand) class (with_chain (objects_in aimed class) id (restamped newer v older stamp)) here (λ n. refl)

@@ -60,7 +60,9 @@ impl<P: Pages> State<P> {
     // The encoding of the row that an operation writes; no bytes where it deletes.
     fn encoded(&self, op: &Op) -> Result<Bytes, NoMemory> {
         match op {
-            Op::New { class, row, .. } | Op::Put { class, row, .. } => self.encoded_row(*class, row),
+            Op::New { class, row, .. } | Op::Put { class, row, .. } => self.encoded_row(
+                *class, row,
+            ),
             _ => Ok(List::new(self.alloc)),
         }
     }
@@ -89,11 +91,13 @@ impl<P: Pages> State<P> {
     /// writes; under MVCC its latch is given up.
     pub fn finish_work(&mut self, c: ConnId, version: CellRef) -> Reply {
         let hand = self.registry.seat_mut(c);
-        let Some(Work {
-            op,
-            bytes: _,
-            puts: _,
-        }) = hand.work.take()
+        let Some(
+            Work {
+                op,
+                bytes: _,
+                puts: _,
+            },
+        ) = hand.work.take()
         else {
             unreachable!()
         };

@@ -13,10 +13,7 @@ use std::mem;
 impl<P: Pages> State<P> {
     // The plan of a connection, which is empty, moved out of its record.
     fn plan_of(&mut self, c: ConnId) -> Plan {
-        mem::replace(
-            &mut self.registry.seat_mut(c).plan,
-            Plan::empty(self.alloc),
-        )
+        mem::replace(&mut self.registry.seat_mut(c).plan, Plan::empty(self.alloc))
     }
 
     /// The first garbage version of a class, by the least open snapshot. The cells are seen as they stand, so no version is found again

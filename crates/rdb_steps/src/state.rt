@@ -9,6 +9,7 @@
 //! | journal    | what has happened, and claims: what of its reserved room is claimed                                       |
 //! | spare_undo | under MURSIW the undo record with a place for each cell of the region, while no writer has it              |
 
+use crate::claims::Claims;
 use rdb_access::accessors::Accessors;
 use rdb_base::identity::{ConnId, Kind, Manager, TxId};
 use rdb_base::list::{List, NoMemory};
@@ -20,8 +21,6 @@ use rdb_schema::schema::Schema;
 use rdb_space::RegionMemory;
 use rdb_store::Store;
 use std::alloc::Global;
-
-use crate::claims::Claims;
 
 /// How many serials and ids were drawn. A number is never drawn twice.
 #[derive(Drop)]
