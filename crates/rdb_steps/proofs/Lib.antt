@@ -7,3 +7,4 @@ pub mod HandLemmas
 pub mod OwnLemmas
 pub mod PhaseLemmas
 pub mod DebtLemmas
+pub mod StoreLemmas

@@ -8,8 +8,10 @@ use Rattle.rdb_base.specs.declared.identity.Stamp.{Stamp}
 use Rattle.rdb_schema.specs.declared.schema.Schema.{Schema}
 use Rattle.rdb_pages.specs.declared.cell.Cell.{Cell}
 use Rattle.rdb_pages.specs.Pages.{zero_cell}
-use Rattle.rdb_cells.specs.Images.{Writes}
+use Rattle.rdb_cells.specs.declared.pairs.Pair.{Pair}
+use Rattle.rdb_cells.specs.Images.{SameImage, Writes}
 use Rattle.rdb_cells.specs.Records.{names, planned}
+use Rattle.rdb_cells.specs.Work.{Work, reading}
 use Rattle.rdb_registry.specs.declared.hand.Hand.{Hand}
 use Rattle.rdb_registry.specs.declared.seat.Seat.{Seat}
 use Rattle.rdb_registry.specs.declared.seat.Transaction.{Transaction}
@@ -96,6 +98,18 @@ pub record WritesStamp (schema : Schema) (before after : Ground) (class header :
   pub records : after.seats ≡ before.seats
   pub restamps : Restamps (schema_class schema class) before.image after.image before.class_of header stamp
 
+-- once these pairs are written, a class's cells hold what they did, where one object has this chain, with another chain of that object
+abbrev pub LeadsTo : Schema → Ground → List Pair → ℕ → ℕ → List Version → List Version → Type 0
+LeadsTo schema g pairs class id was chain = (objects : List Object) → HoldsClass schema g g.image class objects → chain_of objects id ≡ was →
+    HoldsClass schema g (planned pairs g.image) class (with_chain objects id chain)
+
+-- the work on a plan began over these cells, and these pairs are read as its plan
+pub record IsPlanOf (g : Ground) (began ended : Work) (pairs : List Pair) : Type 0 where
+  pub below : (n : ℕ) → began.below n ≡ g.image n
+  pub classes : (n : ℕ) → began.class_of n ≡ g.class_of n
+  pub classes_after : (n : ℕ) → ended.class_of n ≡ g.class_of n
+  pub read : SameImage (planned pairs g.image) (reading ended)
+
 -- A connection without a plan, whose aims are spoken of, has one for a class whose latch it holds. It has cells of that class alone, and leads
 -- from whatever the class's cells hold, where one object has this chain, to the same with another chain of that object.
 pub record LaysPlan (schema : Schema) (manager : Manager) (before after : Ground) (c : ConnId) (seat : Seat) (hand : Hand) (class id : ℕ)
@@ -107,8 +121,7 @@ pub record LaysPlan (schema : Schema) (manager : Manager) (before after : Ground
   pub aims : aims manager (record seat { hand = hand }) ≡ true
   pub latch : HoldsLatch seat class
   pub only : (n : ℕ) → names hand.plan.pairs n ≡ true → before.class_of n ≡ Some class
-  pub leads : (objects : List Object) → HoldsClass schema before before.image class objects → chain_of objects id ≡ was
-      → HoldsClass schema before (planned hand.plan.pairs before.image) class (with_chain objects id chain)
+  pub leads : LeadsTo schema before hand.plan.pairs class id was chain
 
 -- the object of a class and an id, which has this chain, will have another; the settled versions stay
 abbrev pub AimsAtChain : Schema → Manager → Ground → Ground → ℕ → ℕ → List Version → List Version → Type 0

@@ -1,22 +1,29 @@
 //! The laws of the steps: what each leaves of the settled versions and of those aimed at, said of the cells and the records before and after
 //! it. Their functions do nothing.
-ghost use Rattle.std.specs.Prelude.{◌≡◌, ◌<◌, ◌≤◌, ℕ, List, [], length, Bool, false, true, None};
+ghost use Rattle.std.specs.Prelude.{◌≡◌, ◌<◌, ◌≤◌, ◌∷◌, ℕ, List, [], length, Bool, false, true, Option, None};
 ghost use Rattle.rdb_base.specs.declared.identity.ConnId.{ConnId};
 ghost use Rattle.rdb_base.specs.declared.identity.Manager.{Manager};
 ghost use Rattle.rdb_base.specs.declared.identity.Stamp.{Stamp};
+ghost use Rattle.rdb_base.specs.declared.value.Value.{Value};
 ghost use Rattle.rdb_schema.specs.declared.schema.Schema.{Schema};
+ghost use Rattle.rdb_cells.specs.declared.pairs.Pair.{Pair};
 ghost use Rattle.rdb_cells.specs.Records.{max_plan};
+ghost use Rattle.rdb_cells.specs.Work.{Work};
 ghost use Rattle.rdb_registry.specs.declared.hand.Hand.{Hand};
 ghost use Rattle.rdb_registry.specs.declared.seat.Seat.{Seat};
 ghost use Rattle.rdb_registry.specs.Seats.{HoldsLatch, with_latches};
 ghost use Rattle.rdb_sight.specs.Versions.{Version, Versions, IsAscending, objects_in, with_chain_in};
+ghost use Rattle.rdb_store.specs.declared.plans.NewVersion.{NewVersion};
+ghost use Rattle.rdb_store.specs.Chains.{IsLeft, IsWithoutHeader};
+ghost use Rattle.rdb_store.specs.Plans.{Puts, Drops, made_at};
+ghost use Rattle.rdb_store.specs.Shapes.{schema_class};
 ghost use Rattle.rdb_writes.specs.Changes.{ChangesHand, ChangesLatches, Grows};
 ghost use Rattle.rdb_writes.specs.Grounds.{Ground, AreWorks, HaveOneHolder};
 ghost use Rattle.rdb_writes.specs.Steps.{WritesNext, TakesNewestBack, ends};
 ghost use Rattle.rdb_steps.specs.Kept.{IsLawful, Owns, aims, is_dropping, takes_back};
 ghost use Rattle.rdb_steps.specs.Debt.{IsBounded, settled_own};
 ghost use Rattle.rdb_steps.specs.Phases.{Rests};
-ghost use Rattle.rdb_steps.specs.Lists.{KeepsLists, Settles, GivesUp, WritesLive, ComeZero, TakesFree, RestsThere, WritesStamp, StampsVersion, LaysPlan, AimsAtChain, OwnFollow};
+ghost use Rattle.rdb_steps.specs.Lists.{KeepsLists, Settles, GivesUp, WritesLive, ComeZero, TakesFree, RestsThere, WritesStamp, StampsVersion, LaysPlan, AimsAtChain, OwnFollow, IsPlanOf, LeadsTo};
 
 /// A cell of a plan is written: both lists of versions stay. With the last cell of a plan that the undo record spans, what the connection
 /// aimed at in its classes is settled.
@@ -107,4 +114,20 @@ pub fn a_live_writer_aims()
 pub fn debt_is_bounded()
     ensures { (manager : Manager) (seat : Seat) (versions pages : ℕ) → length seat.hand.plan.pairs ≤ max_plan
         → (is_dropping seat.hand ≡ true → 0 < settled_own manager seat) → IsBounded manager seat versions pages }
+{}
+
+/// The store's plan of a version that is put leads to that version first in its object's chain, without the one that it replaces, if it does.
+pub fn a_put_leads_to_its_version()
+    ensures { (schema : Schema) (g : Ground) (began ended : Work) (pairs : List Pair) (class header : ℕ) (new : NewVersion)
+        (row : Option (List Value)) (was rest : List Version) → IsLawful schema → class < length schema.classes
+        → IsPlanOf g began ended pairs → Puts (schema_class schema class) began ended new header row → IsLeft new.replaces was rest
+        → LeadsTo schema g pairs class new.id was (made_at header new row ∷ rest) }
+{}
+
+/// The store's plan of a version that is dropped leads to its object's chain without it.
+pub fn a_drop_leads_to_the_rest()
+    ensures { (schema : Schema) (g : Ground) (began ended : Work) (pairs : List Pair) (class header id : ℕ) (was rest : List Version)
+        → IsLawful schema → class < length schema.classes → IsPlanOf g began ended pairs
+        → Drops (schema_class schema class) began ended header → IsWithoutHeader header was rest
+        → LeadsTo schema g pairs class id was rest }
 {}
