@@ -1,5 +1,5 @@
 -- The bounds of the number of steps that are left.
-use Rattle.std.proofs.Common.{◌≡◌, ◌<◌, ◌≤◌, ◌+◌, ◌-◌, ◌*◌, ◌==◌, ◌||◌, ℕ, Bool, true, false, cond, not, length, Option, Some, None, is_some, refl, ap, sym, ◌∙◌, arith, eqb-true}
+use Rattle.std.proofs.Common.{◌≡◌, ◌<◌, ◌≤◌, ◌+◌, ◌-◌, ◌*◌, ◌==◌, ◌||◌, ℕ, Bool, true, false, cond, not, length, Option, Some, None, is_some, refl, arith, eqb-true}
 use Rattle.rdb_base.specs.declared.identity.Manager.{Manager}
 use Rattle.rdb_pages.specs.declared.cell.CellRef.{CellRef}
 use Rattle.rdb_cells.specs.Records.{max_plan}

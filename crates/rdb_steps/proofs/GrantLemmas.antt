@@ -1,16 +1,15 @@
 -- Cells that come leave both lists of versions.
-use Rattle.std.proofs.Common.{◌≡◌, ◌⊎◌, ◌<◌, ℕ, List, length, Option, Some, None, IsSome, refl, sym, ap, subst, ◌∙◌, inl, inr}
+use Rattle.std.proofs.Common.{◌≡◌, ◌⊎◌, ℕ, Option, Some, None, IsSome, refl, sym, ap, subst, ◌∙◌, inl, inr}
 use Rattle.rdb_base.specs.declared.identity.Manager.{Manager}
 use Rattle.rdb_schema.specs.declared.schema.Schema.{Schema}
-use Rattle.rdb_pages.specs.Pages.{zero_cell}
 use Rattle.rdb_cells.specs.Images.{Image}
 use Rattle.rdb_registry.specs.Seats.{Seats, seat_in}
-use Rattle.rdb_sight.specs.Versions.{Object, objects_in}
+use Rattle.rdb_sight.specs.Versions.{objects_in}
 use Rattle.rdb_store.specs.Laws.{Grants}
 use Rattle.rdb_writes.specs.Changes.{Grows}
 use Rattle.rdb_writes.specs.Grounds.{Ground, AreWorks, settled_image, aimed_image}
 use Rattle.rdb_writes.proofs.ChangeLemmas.{grown_works, grown_settled, grown_aimed, grown_new, grown_unplanned}
-use Rattle.rdb_steps.specs.Kept.{IsLawful, HoldsClass}
+use Rattle.rdb_steps.specs.Kept.{IsLawful}
 use Rattle.rdb_steps.specs.Lists.{KeepsLists, ComeZero}
 
 some_of : (o : Option ℕ) (class : ℕ) → o ≡ Some class → IsSome o

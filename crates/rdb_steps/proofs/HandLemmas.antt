@@ -1,5 +1,5 @@
 -- One connection's hand changes, and no cell: a mark settles what was aimed at, and of a plan that is given up nothing is spoken of.
-use Rattle.std.proofs.Common.{◌≡◌, ◌≢◌, ◌<◌, ℕ, List, [], length, Bool, true, false, Option, Some, None, option_map, refl, sym, ap, subst, ◌∙◌, arith, inl, inr}
+use Rattle.std.proofs.Common.{◌≡◌, ◌≢◌, ◌<◌, ℕ, List, [], length, true, false, Some, option_map, sym, ap, subst, ◌∙◌, arith, inl, inr}
 use Rattle.std.proofs.lemmas.Bool.{false≢true}
 use Rattle.std.proofs.Permutation.{which}
 use Rattle.rdb_base.specs.declared.identity.ConnId.{ConnId}
@@ -18,7 +18,7 @@ use Rattle.rdb_writes.specs.Grounds.{Ground, AreWorks, HaveOneHolder, settled_im
 use Rattle.rdb_writes.proofs.ChangeLemmas.{hand_works, hand_same, hand_emptied, hand_others}
 use Rattle.rdb_writes.proofs.WorkLemmas.{in_its_slot}
 use Rattle.rdb_steps.specs.Kept.{IsLawful, HoldsClass, Agrees, AimsAt, IsUnaimed, aims}
-use Rattle.rdb_steps.specs.Lists.{Settles, GivesUp, taken_over}
+use Rattle.rdb_steps.specs.Lists.{Settles, GivesUp}
 use Rattle.rdb_steps.proofs.ListLemmas.{holds_same, length_taken, taken_held, taken_free, held_or_not, unlatched_class}
 
 module _ (schema : Schema) (manager : Manager) (before after : Ground) (c : ConnId) (seat : Seat) (hand : Hand) (lawful : IsLawful schema) (one : HaveOneHolder before.seats) (works : AreWorks before) (changes : ChangesHand before after c seat hand) (no_plan : hand.plan.pairs ≡ []) where

@@ -1,14 +1,12 @@
 -- Latches that are taken leave both lists of versions; of those that are given up, what was aimed at is no longer spoken of.
-use Rattle.std.proofs.Common.{◌≡◌, ◌≢◌, ◌⊎◌, ◌<◌, ◌==◌, ◌&&◌, ◌||◌, ℕ, List, [], length, Bool, true, false, not, Option, Some, None, is_none, option_map, refl, sym, ap, subst, ◌∙◌, arith, inl, inr, eq-eqb, eqb-true}
-use Rattle.std.proofs.lemmas.Bool.{false≢true}
+use Rattle.std.proofs.Common.{◌≡◌, ◌≢◌, ◌<◌, ℕ, List, [], length, true, false, Some, option_map, sym, ap, subst, ◌∙◌, arith, inl, inr}
 use Rattle.std.proofs.Permutation.{which}
 use Rattle.rdb_base.specs.declared.identity.Manager.{Manager}
 use Rattle.rdb_schema.specs.declared.schema.Schema.{Schema}
 use Rattle.rdb_cells.specs.declared.pairs.Pair.{Pair}
-use Rattle.rdb_cells.specs.Images.{Image}
 use Rattle.rdb_cells.specs.Records.{content, first_of, planned}
 use Rattle.rdb_registry.specs.declared.seat.Seat.{Seat}
-use Rattle.rdb_registry.specs.Seats.{Seats, seat_in, HoldsLatch, NoneHolds, with_latches}
+use Rattle.rdb_registry.specs.Seats.{Seats, seat_in, HoldsLatch, with_latches}
 use Rattle.rdb_registry.proofs.SlotLemmas.{seat_in_other}
 use Rattle.rdb_registry.proofs.RecordLaws.{changed_here}
 use Rattle.rdb_sight.specs.Versions.{Object, Versions, objects_in}
@@ -16,7 +14,7 @@ use Rattle.rdb_writes.specs.Changes.{ChangesLatches}
 use Rattle.rdb_writes.specs.Grounds.{Ground, AreWorks, HaveOneHolder, settled_image, aimed_image}
 use Rattle.rdb_writes.proofs.ChangeLemmas.{latches_works, latches_settled, by_nobody}
 use Rattle.rdb_steps.specs.Kept.{IsLawful, HoldsClass, Agrees, AimsAt, IsUnaimed, aims}
-use Rattle.rdb_steps.specs.Lists.{KeepsLists, GivesUp, TakesFree, taken_over}
+use Rattle.rdb_steps.specs.Lists.{KeepsLists, GivesUp, TakesFree}
 use Rattle.rdb_steps.proofs.ListLemmas.{holds_same, length_taken, taken_held, taken_free, held_or_not}
 
 module _ (schema : Schema) (manager : Manager) (before after : Ground) (slot : ℕ) (seat : Seat) (latches : ℕ) (lawful : IsLawful schema) (works : AreWorks before) (changes : ChangesLatches before after slot seat latches) where

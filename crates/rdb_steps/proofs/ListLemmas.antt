@@ -1,5 +1,5 @@
 -- What the writes of connections leave of the settled versions and of those aimed at.
-use Rattle.std.proofs.Common.{◌≡◌, ◌≢◌, ◌⊎◌, ◌<◌, ◌+◌, ◌==◌, ◌&&◌, ◌||◌, ◌∷◌, ◌++◌, ℕ, zero, suc, List, [], length, Bool, true, false, not, cond, Option, Some, None, is_none, option_map, refl, sym, ap, subst, ◌∙◌, arith, inl, inr, eq-eqb, eqb-true, slice_index_or}
+use Rattle.std.proofs.Common.{◌≡◌, ◌≢◌, ◌⊎◌, ◌<◌, ◌+◌, ◌==◌, ◌&&◌, ◌||◌, ◌∷◌, ◌++◌, ℕ, zero, suc, List, [], length, Bool, true, false, not, cond, Option, Some, is_none, option_map, refl, sym, ap, subst, ◌∙◌, arith, inl, inr, eq-eqb, eqb-true, slice_index_or}
 use Rattle.std.proofs.lemmas.Bool.{false≢true, ne_eqb}
 use Rattle.std.proofs.Permutation.{which}
 use Rattle.std.specs.Int.{bit_at}
@@ -7,7 +7,7 @@ use Rattle.rdb_base.specs.declared.identity.ConnId.{ConnId}
 use Rattle.rdb_base.specs.declared.identity.Manager.{Manager}
 use Rattle.rdb_schema.specs.declared.schema.Schema.{Schema}
 use Rattle.rdb_cells.specs.declared.pairs.Pair.{Pair}
-use Rattle.rdb_cells.specs.Images.{Image, SameImage}
+use Rattle.rdb_cells.specs.Images.{Image}
 use Rattle.rdb_cells.specs.Records.{Record, content, first_of}
 use Rattle.rdb_cells.proofs.SettledLemmas.{true_or_false}
 use Rattle.rdb_registry.specs.declared.hand.Hand.{Hand}
@@ -20,7 +20,7 @@ use Rattle.rdb_writes.specs.Grounds.{Ground, IsLatched, AreWorks, HaveOneHolder,
 use Rattle.rdb_writes.specs.Steps.{Works, WritesNext, TakesNewestBack, spans_one_plan, is_written, ends, ended}
 use Rattle.rdb_writes.proofs.PlanLemmas.{longer_by_one}
 use Rattle.rdb_writes.proofs.WorkLemmas.{in_its_slot}
-use Rattle.rdb_steps.specs.Kept.{IsLawful, HoldsClass, Agrees, AimsAt, IsUnaimed, aims, takes_back, is_dropping}
+use Rattle.rdb_steps.specs.Kept.{IsLawful, HoldsClass, Agrees, AimsAt, IsUnaimed, aims, takes_back}
 use Rattle.rdb_steps.specs.Lists.{KeepsLists, Settles, GivesUp, WritesLive, taken_over, taken_over_from}
 
 -- what a class holds, where its cells hold the same

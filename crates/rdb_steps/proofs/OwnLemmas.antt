@@ -1,9 +1,8 @@
 -- The own writes of a record follow its transaction's versions, as one object has another chain.
-use Rattle.std.proofs.Common.{◌≡◌, ◌≢◌, ◌⊎◌, ◌<◌, ℕ, List, length, Option, Some, None, option_map, refl, sym, ap, subst, ◌∙◌, inl, inr}
+use Rattle.std.proofs.Common.{◌≡◌, ◌≢◌, ◌⊎◌, ◌<◌, ℕ, List, length, Some, option_map, sym, ap, ◌∙◌, inl, inr}
 use Rattle.std.proofs.lemmas.Bool.{ne_eqb}
 use Rattle.std.proofs.Permutation.{which}
 use Rattle.rdb_registry.specs.declared.seat.Seat.{Seat}
-use Rattle.rdb_registry.specs.declared.seat.Transaction.{Transaction}
 use Rattle.rdb_registry.specs.OwnWrites.{header_of}
 use Rattle.rdb_base.specs.declared.identity.ConnId.{ConnId}
 use Rattle.rdb_sight.specs.Versions.{Version, Object, Versions, IsAscending, objects_in, chain_of, chain_in, with_chain, with_chain_in, own_version}
@@ -29,7 +28,7 @@ chain_of_other_class versions class id other_class other chain ne =
     ap (λ (objects : List Object). chain_of objects other) (set_elsewhere versions class other_class (with_chain (objects_in versions class) id chain) ne)
 
 -- one object or another
-pub object_is : (a b c d : ℕ) → ((a ≡ c) × (b ≡ d)) ⊎ ((a, b) ≢ (c, d))
+pub object_is : (a b c d : ℕ) → ((a ≡ c) × (b ≡ d)) ⊎ (◌≢◌ {A = ℕ × ℕ} (a, b) (c, d))
 object_is a b c d = elim (which a c) [
   | inl class ↦ elim (which b d) [
     | inl id ↦ inl (class, id)
@@ -38,7 +37,7 @@ object_is a b c d = elim (which a c) [
   | inr ne ↦ inr (λ e. ne (ap (λ (p : ℕ × ℕ). p.0) e))
 ]
 
-pub chain_elsewhere : (versions : Versions) (class id other_class other : ℕ) (chain : List Version) → class < length versions → IsAscending (objects_in versions class) → (other_class, other) ≢ (class, id) → chain_in (with_chain_in versions class id chain) other_class other ≡ chain_in versions other_class other
+pub chain_elsewhere : (versions : Versions) (class id other_class other : ℕ) (chain : List Version) → class < length versions → IsAscending (objects_in versions class) → ◌≢◌ {A = ℕ × ℕ} (other_class, other) (class, id) → chain_in (with_chain_in versions class id chain) other_class other ≡ chain_in versions other_class other
 chain_elsewhere versions class id other_class other chain within ascending ne = elim (which other_class class) [
   | inl same ↦
       let differs : other ≢ id = λ e. ne (λ i. (same i, e i)) in

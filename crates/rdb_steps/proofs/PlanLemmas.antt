@@ -1,5 +1,5 @@
 -- A plan that is made: its connection aims at what the plan leads to.
-use Rattle.std.proofs.Common.{◌≡◌, ◌≢◌, ◌<◌, ℕ, List, [], length, Bool, true, false, Option, Some, None, option_map, refl, sym, ap, subst, ◌∙◌, arith, inl, inr}
+use Rattle.std.proofs.Common.{◌≡◌, ◌≢◌, ◌<◌, ℕ, List, length, false, Option, Some, option_map, refl, sym, ap, subst, ◌∙◌, arith, inl, inr}
 use Rattle.std.proofs.lemmas.Bool.{false≢true}
 use Rattle.std.proofs.Permutation.{which}
 use Rattle.rdb_base.specs.declared.identity.ConnId.{ConnId}
@@ -19,7 +19,7 @@ use Rattle.rdb_sight.specs.Versions.{Version, Object, Versions, objects_in, chai
 use Rattle.rdb_writes.specs.Grounds.{Ground, AreWorks, HaveOneHolder, settled_image, aimed_image}
 use Rattle.rdb_writes.proofs.ChangeLemmas.{hand_works, hand_same}
 use Rattle.rdb_writes.proofs.WorkLemmas.{in_its_slot}
-use Rattle.rdb_steps.specs.Kept.{IsLawful, HoldsClass, Agrees, AimsAt, aims}
+use Rattle.rdb_steps.specs.Kept.{IsLawful, HoldsClass, Agrees, AimsAt}
 use Rattle.rdb_steps.specs.Lists.{LaysPlan, AimsAtChain}
 use Rattle.rdb_steps.proofs.ListLemmas.{holds_same, class_is}
 use Rattle.rdb_steps.proofs.StampLemmas.{set_here, set_elsewhere, set_length}

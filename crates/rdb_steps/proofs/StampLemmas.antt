@@ -1,11 +1,10 @@
 -- A header with another stamp is another stamp of that version, in both lists.
-use Rattle.std.proofs.Common.{◌≡◌, ◌≢◌, ◌⊎◌, ◌<◌, ◌∷◌, ◌++◌, ℕ, zero, suc, List, [], length, set, Bool, true, false, Option, Some, None, refl, sym, ap, subst, ◌∙◌, arith, inl, inr, slice_index_or, slice_set}
+use Rattle.std.proofs.Common.{◌≡◌, ◌≢◌, ◌<◌, ◌∷◌, ◌++◌, ℕ, zero, suc, List, [], length, set, true, Some, refl, sym, ap, subst, ◌∙◌, arith, inl, inr}
 use Rattle.std.proofs.Permutation.{which}
 use Rattle.rdb_base.specs.declared.identity.Manager.{Manager}
 use Rattle.rdb_base.specs.declared.identity.Stamp.{Stamp}
 use Rattle.rdb_schema.specs.declared.schema.Schema.{Schema}
 use Rattle.rdb_cells.specs.declared.pairs.Pair.{Pair}
-use Rattle.rdb_cells.specs.Images.{Image}
 use Rattle.rdb_cells.specs.Records.{names, content, first_of, planned, NoneNames}
 use Rattle.rdb_cells.proofs.SettledLemmas.{true_or_false, settled-other}
 use Rattle.rdb_registry.specs.declared.seat.Seat.{Seat}
@@ -14,7 +13,7 @@ use Rattle.rdb_sight.specs.Versions.{Version, Object, Versions, objects_in, chai
 use Rattle.rdb_writes.specs.Grounds.{Ground, AreWorks, settled_image, aimed_image, undo_records}
 use Rattle.rdb_writes.proofs.ChangeLemmas.{same_works}
 use Rattle.rdb_writes.proofs.RecordLemmas.{none_names}
-use Rattle.rdb_steps.specs.Kept.{IsLawful, HoldsClass, Agrees, AimsAt, IsUnaimed, aims}
+use Rattle.rdb_steps.specs.Kept.{IsLawful, HoldsClass, Agrees, IsUnaimed, aims}
 use Rattle.rdb_steps.specs.Lists.{StampsVersion, RestsThere, WritesStamp, restamped}
 use Rattle.rdb_steps.proofs.ListLemmas.{holds_same, class_is}
 

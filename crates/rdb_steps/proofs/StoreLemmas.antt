@@ -1,12 +1,11 @@
 -- Where the store's plans lead.
-use Rattle.std.proofs.Common.{◌≡◌, ◌<◌, ◌∷◌, ℕ, List, length, Option, Some, refl, sym, subst, ◌∙◌}
+use Rattle.std.proofs.Common.{◌<◌, ◌∷◌, ℕ, List, length, Option, sym, subst, ◌∙◌}
 use Rattle.rdb_base.specs.declared.value.Value.{Value}
 use Rattle.rdb_schema.specs.declared.schema.Schema.{Schema}
 use Rattle.rdb_cells.specs.declared.pairs.Pair.{Pair}
-use Rattle.rdb_cells.specs.Images.{Image}
 use Rattle.rdb_cells.specs.Records.{planned}
 use Rattle.rdb_cells.specs.Work.{Work, reading}
-use Rattle.rdb_sight.specs.Versions.{Version, Object, chain_of, with_chain}
+use Rattle.rdb_sight.specs.Versions.{Version, Object, with_chain}
 use Rattle.rdb_store.specs.declared.plans.NewVersion.{NewVersion}
 use Rattle.rdb_store.specs.Chains.{IsLeft, IsWithoutHeader}
 use Rattle.rdb_store.specs.Holds.{Holds}

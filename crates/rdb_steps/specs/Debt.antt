@@ -1,6 +1,6 @@
 -- A number that falls at each step of a connection's own work, and of its repair, and that no step of another connection raises but its
 -- condemnation. It is what bounds how many steps are left.
-use Rattle.std.specs.Prelude.{◌≡◌, ◌≤◌, ◌+◌, ◌-◌, ◌*◌, ◌==◌, ◌||◌, ℕ, Bool, true, false, length, Option, Some, None, is_some, not, if◌then◌else◌}
+use Rattle.std.specs.Prelude.{◌≤◌, ◌+◌, ◌-◌, ◌*◌, ◌==◌, ◌||◌, ℕ, length, Option, Some, None, is_some, not, if◌then◌else◌}
 use Rattle.rdb_base.specs.declared.identity.Manager.{Manager}
 use Rattle.rdb_base.specs.declared.identity.Phase.{Phase}
 use Rattle.rdb_base.specs.declared.identity.Phase.TheVariants as phase

@@ -1,7 +1,7 @@
 -- What every step keeps of cells, latches, plans, undo records and own writes. Nothing here speaks of a journal. It is said of two lists of
 -- versions: the settled ones, which are there once all unfinished work is taken back, and those aimed at, which are there once the plan of
 -- each class's holder is written.
-use Rattle.std.specs.Prelude.{◌≡◌, ◌≢◌, ◌<◌, ◌≤◌, ◌⊎◌, ◌&&◌, ◌||◌, ◌==◌, ℕ, List, [], Bool, true, false, not, length, slice_index, Option, Some, None, is_some, is_none, option_and_then}
+use Rattle.std.specs.Prelude.{◌≡◌, ◌≢◌, ◌<◌, ◌≤◌, ◌&&◌, ◌||◌, ◌==◌, ℕ, List, [], Bool, true, false, not, length, slice_index, Some, is_some, is_none, option_and_then}
 use Rattle.std.specs.Option.{option_map}
 use Rattle.rdb_base.specs.declared.identity.Manager.{Manager}
 use Rattle.rdb_base.specs.declared.identity.Phase.{Phase}
@@ -14,7 +14,7 @@ use Rattle.rdb_registry.specs.declared.seat.Seat.{Seat}
 use Rattle.rdb_registry.specs.declared.seat.Transaction.{Transaction}
 use Rattle.rdb_registry.specs.OwnWrites.{header_of}
 use Rattle.rdb_registry.specs.Seats.{EachSeat, HoldsLatch}
-use Rattle.rdb_sight.specs.Versions.{Version, Object, Versions, objects_in, chain_in, chain_of, own_version}
+use Rattle.rdb_sight.specs.Versions.{Version, Object, Versions, objects_in, chain_in, own_version}
 use Rattle.rdb_store.specs.Holds.{Holds}
 use Rattle.rdb_store.specs.Laws.{RestsOnClass, RestsOnGrants, HoldsOne}
 use Rattle.rdb_store.specs.Shapes.{schema_class}
@@ -108,9 +108,3 @@ pub record Agrees (schema : Schema) (manager : Manager) (g : Ground) (settled ai
   pub stands : Stands schema g settled
   pub aims : Aims schema manager g aimed
   pub rest : RestIsSettled schema manager g settled aimed
-
--- What holds of the cells and the records at every state: they agree with the two lists, and each record's own writes are those of its
--- transaction's versions.
-pub record IsKept (schema : Schema) (manager : Manager) (g : Ground) (settled aimed : Versions) : Type 0 where
-  pub agrees : Agrees schema manager g settled aimed
-  pub own : EachSeat (λ slot seat. OwnAre manager seat settled aimed) g.seats

@@ -2,4 +2,5 @@ pub mod Kept
 pub mod Phases
 pub mod Lists
 pub mod Debt
+pub mod Invariant
 pub mod States

@@ -1,6 +1,6 @@
 //! The laws of the steps: what each leaves of the settled versions and of those aimed at, said of the cells and the records before and after
 //! it. Their functions do nothing.
-ghost use Rattle.std.specs.Prelude.{◌≡◌, ◌<◌, ◌≤◌, ◌∷◌, ℕ, List, [], length, Bool, false, true, Option, None};
+ghost use Rattle.std.specs.Prelude.{◌≡◌, ◌<◌, ◌≤◌, ◌∷◌, ℕ, List, [], length, Bool, false, true, Option, Some, None};
 ghost use Rattle.rdb_base.specs.declared.identity.ConnId.{ConnId};
 ghost use Rattle.rdb_base.specs.declared.identity.Manager.{Manager};
 ghost use Rattle.rdb_base.specs.declared.identity.Stamp.{Stamp};
@@ -11,7 +11,7 @@ ghost use Rattle.rdb_cells.specs.Records.{max_plan};
 ghost use Rattle.rdb_cells.specs.Work.{Work};
 ghost use Rattle.rdb_registry.specs.declared.hand.Hand.{Hand};
 ghost use Rattle.rdb_registry.specs.declared.seat.Seat.{Seat};
-ghost use Rattle.rdb_registry.specs.Seats.{HoldsLatch, with_latches};
+ghost use Rattle.rdb_registry.specs.Seats.{HoldsLatch, seat_in, with_latches};
 ghost use Rattle.rdb_sight.specs.Versions.{Version, Versions, IsAscending, objects_in, with_chain_in};
 ghost use Rattle.rdb_store.specs.declared.plans.NewVersion.{NewVersion};
 ghost use Rattle.rdb_store.specs.Chains.{IsLeft, IsWithoutHeader};
@@ -20,7 +20,8 @@ ghost use Rattle.rdb_store.specs.Shapes.{schema_class};
 ghost use Rattle.rdb_writes.specs.Changes.{ChangesHand, ChangesLatches, Grows};
 ghost use Rattle.rdb_writes.specs.Grounds.{Ground, AreWorks, HaveOneHolder};
 ghost use Rattle.rdb_writes.specs.Steps.{WritesNext, TakesNewestBack, ends};
-ghost use Rattle.rdb_steps.specs.Kept.{IsLawful, Owns, aims, is_dropping, takes_back};
+ghost use Rattle.rdb_steps.specs.Kept.{AimsAt, IsLawful, Owns, aims, is_dropping, takes_back};
+ghost use Rattle.rdb_steps.specs.Invariant.{IsKept};
 ghost use Rattle.rdb_steps.specs.Debt.{IsBounded, settled_own};
 ghost use Rattle.rdb_steps.specs.Phases.{Rests};
 ghost use Rattle.rdb_steps.specs.Lists.{KeepsLists, Settles, GivesUp, WritesLive, ComeZero, TakesFree, RestsThere, WritesStamp, StampsVersion, LaysPlan, AimsAtChain, OwnFollow, IsPlanOf, LeadsTo};
@@ -130,4 +131,13 @@ pub fn a_drop_leads_to_the_rest()
         → IsLawful schema → class < length schema.classes → IsPlanOf g began ended pairs
         → Drops (schema_class schema class) began ended header → IsWithoutHeader header was rest
         → LeadsTo schema g pairs class id was rest }
+{}
+
+/// Of what is kept of a World, by whatever versions are settled and aimed at: a connection that isn't condemned and has a plan has it for
+/// classes whose latch it holds, and what its plan aims at in each of them is spoken of.
+pub fn a_live_plan_aims_in_its_classes()
+    ensures { (schema : Schema) (manager : Manager) (serials : ℕ) (ids : List ℕ) (g : Ground) (settled aimed : Versions) (slot class : ℕ)
+        (seat : Seat) → IsKept schema manager serials ids g settled aimed → seat_in g.seats slot ≡ Some seat → seat.condemned ≡ None
+        → ¬ (seat.hand.plan.pairs ≡ []) → class < length schema.classes → HoldsLatch seat class
+        → AimsAt schema g seat class (objects_in aimed class) }
 {}
