@@ -59,8 +59,8 @@ abbrev pub dropped_before : Option Work → Hand → ℕ
 dropped_before None hand = 0
 dropped_before (Some work) hand = if is_some work.puts || is_written hand then 0 else 1
 
--- The bounds of the number: of a repair, by the pairs and the settled own versions; of an operation in work, by the versions of its class as
--- the writer sees them.
+-- The bounds of the number: of a repair, by the pairs and the settled own versions; of an operation in work, by the versions of its class
+-- as the writer sees them.
 pub record IsBounded (manager : Manager) (seat : Seat) (versions pages : ℕ) : Type 0 where
   pub repair : repair_debt manager seat ≤ length seat.hand.undo.pairs + 2 + version_steps * settled_own manager seat
   pub work : (seen : ℕ) → versions + dropped_before seat.hand.work seat.hand ≤ seen

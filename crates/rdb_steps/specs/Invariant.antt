@@ -8,8 +8,8 @@ use Rattle.rdb_writes.specs.Grounds.{Ground, HaveOneHolder}
 use Rattle.rdb_steps.specs.Kept.{Agrees, OwnAre, AreDrawn}
 use Rattle.rdb_steps.specs.Phases.{Rests}
 
--- The cells agree with the two lists; a latch has one holder; each record's own writes are those of its transaction's versions, and it has in
--- hand what its phase says; and every version's serial and id was drawn.
+-- The cells agree with the two lists; a latch has one holder; each record's own writes are those of its transaction's versions, and it has
+-- in hand what its phase says; and every version's serial and id was drawn.
 pub record IsKept (schema : Schema) (manager : Manager) (serials : ℕ) (ids : List ℕ) (g : Ground) (settled aimed : Versions) : Type 0 where
   pub agrees : Agrees schema manager g settled aimed
   pub one_holder : HaveOneHolder g.seats

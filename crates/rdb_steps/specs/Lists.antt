@@ -79,8 +79,8 @@ restamped newer v older stamp = newer ++ record v { stamp = stamp } ∷ older
 
 -- a version of an object has another stamp, in both lists
 abbrev pub StampsVersion : Schema → Manager → Ground → Ground → ℕ → ℕ → Stamp → Type 0
-StampsVersion schema manager before after class header stamp = (settled aimed : Versions) (id : ℕ) (newer older : List Version) (v : Version) →
-    Agrees schema manager before settled aimed → chain_in settled class id ≡ newer ++ v ∷ older → v.header ≡ header →
+StampsVersion schema manager before after class header stamp = (settled aimed : Versions) (id : ℕ) (newer older : List Version)
+    (v : Version) → Agrees schema manager before settled aimed → chain_in settled class id ≡ newer ++ v ∷ older → v.header ≡ header →
     Agrees schema manager after (with_chain_in settled class id (restamped newer v older stamp))
     (with_chain_in aimed class id (restamped newer v older stamp))
 
@@ -100,8 +100,8 @@ pub record WritesStamp (schema : Schema) (before after : Ground) (class header :
 
 -- once these pairs are written, a class's cells hold what they did, where one object has this chain, with another chain of that object
 abbrev pub LeadsTo : Schema → Ground → List Pair → ℕ → ℕ → List Version → List Version → Type 0
-LeadsTo schema g pairs class id was chain = (objects : List Object) → HoldsClass schema g g.image class objects → chain_of objects id ≡ was →
-    HoldsClass schema g (planned pairs g.image) class (with_chain objects id chain)
+LeadsTo schema g pairs class id was chain = (objects : List Object) → HoldsClass schema g g.image class objects →
+    chain_of objects id ≡ was → HoldsClass schema g (planned pairs g.image) class (with_chain objects id chain)
 
 -- the work on a plan began over these cells, and these pairs are read as its plan
 pub record IsPlanOf (g : Ground) (began ended : Work) (pairs : List Pair) : Type 0 where
@@ -110,8 +110,8 @@ pub record IsPlanOf (g : Ground) (began ended : Work) (pairs : List Pair) : Type
   pub classes_after : (n : ℕ) → ended.class_of n ≡ g.class_of n
   pub read : SameImage (planned pairs g.image) (reading ended)
 
--- A connection without a plan, whose aims are spoken of, has one for a class whose latch it holds. It has cells of that class alone, and leads
--- from whatever the class's cells hold, where one object has this chain, to the same with another chain of that object.
+-- A connection without a plan, whose aims are spoken of, has one for a class whose latch it holds. It has cells of that class alone, and
+-- leads from whatever the class's cells hold, where one object has this chain, to the same with another chain of that object.
 pub record LaysPlan (schema : Schema) (manager : Manager) (before after : Ground) (c : ConnId) (seat : Seat) (hand : Hand) (class id : ℕ)
     (was chain : List Version) : Type 0 where
   pub changes : ChangesHand before after c seat hand

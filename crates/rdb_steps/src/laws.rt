@@ -1,5 +1,5 @@
-//! The laws of the steps: what each leaves of the settled versions and of those aimed at, said of the cells and the records before and after
-//! it. Their functions do nothing.
+//! The laws of the steps: what each leaves of the settled versions and of those aimed at, said of the cells and the records before and
+//! after it. Their functions do nothing.
 ghost use Rattle.std.specs.Prelude.{◌≡◌, ◌<◌, ◌≤◌, ◌∷◌, ℕ, List, [], length, Bool, false, true, Option, Some, None};
 ghost use Rattle.rdb_base.specs.declared.identity.ConnId.{ConnId};
 ghost use Rattle.rdb_base.specs.declared.identity.Manager.{Manager};
@@ -117,7 +117,8 @@ pub fn debt_is_bounded()
         → (is_dropping seat.hand ≡ true → 0 < settled_own manager seat) → IsBounded manager seat versions pages }
 {}
 
-/// The store's plan of a version that is put leads to that version first in its object's chain, without the one that it replaces, if it does.
+/// The store's plan of a version that is put leads to that version first in its object's chain, without the one that it replaces, if it
+/// replaces one.
 pub fn a_put_leads_to_its_version()
     ensures { (schema : Schema) (g : Ground) (began ended : Work) (pairs : List Pair) (class header : ℕ) (new : NewVersion)
         (row : Option (List Value)) (was rest : List Version) → IsLawful schema → class < length schema.classes
