@@ -6,6 +6,7 @@ ghost use Rattle.rdb_base.specs.declared.identity.Manager.{Manager};
 ghost use Rattle.rdb_base.specs.declared.identity.Stamp.{Stamp};
 ghost use Rattle.rdb_base.specs.declared.value.Value.{Value};
 ghost use Rattle.rdb_schema.specs.declared.schema.Schema.{Schema};
+ghost use Rattle.rdb_schema.specs.Schemas.{IsSchema};
 ghost use Rattle.rdb_cells.specs.declared.pairs.Pair.{Pair};
 ghost use Rattle.rdb_cells.specs.Records.{max_plan};
 ghost use Rattle.rdb_cells.specs.Work.{Work};
@@ -16,7 +17,7 @@ ghost use Rattle.rdb_sight.specs.Versions.{Version, Versions, IsAscending, objec
 ghost use Rattle.rdb_store.specs.declared.plans.NewVersion.{NewVersion};
 ghost use Rattle.rdb_store.specs.Chains.{IsLeft, IsWithoutHeader};
 ghost use Rattle.rdb_store.specs.Plans.{Puts, Drops, made_at};
-ghost use Rattle.rdb_store.specs.Shapes.{schema_class};
+ghost use Rattle.rdb_store.specs.Shapes.{schema_class, IsServed};
 ghost use Rattle.rdb_writes.specs.Changes.{ChangesHand, ChangesLatches, Grows};
 ghost use Rattle.rdb_writes.specs.Grounds.{Ground, AreWorks, HaveOneHolder};
 ghost use Rattle.rdb_writes.specs.Steps.{WritesNext, TakesNewestBack, ends};
@@ -25,6 +26,20 @@ ghost use Rattle.rdb_steps.specs.Invariant.{IsKept};
 ghost use Rattle.rdb_steps.specs.Debt.{IsBounded, settled_own};
 ghost use Rattle.rdb_steps.specs.Phases.{Rests};
 ghost use Rattle.rdb_steps.specs.Lists.{KeepsLists, Settles, GivesUp, WritesLive, ComeZero, TakesFree, RestsThere, WritesStamp, StampsVersion, LaysPlan, AimsAtChain, OwnFollow, IsPlanOf, LeadsTo};
+
+use rdb_store::{
+    an_image_holds_one_list, classes_rest_on_their_cells, granted_pages_change_nothing,
+};
+
+/// Of a schema whose indexes a store serves, what each class holds rests on its own cells, stays as zero cells come, and is one list. The laws
+/// below ask no more of a schema.
+pub fn a_served_schema_is_lawful()
+    ensures { (schema : Schema) → IsSchema schema → IsServed schema → IsLawful schema }
+{
+    classes_rest_on_their_cells();
+    granted_pages_change_nothing();
+    an_image_holds_one_list();
+}
 
 /// A cell of a plan is written: both lists of versions stay. With the last cell of a plan that the undo record spans, what the connection
 /// aimed at in its classes is settled.

@@ -35,7 +35,8 @@ pub use laws::{
     a_cell_taken_back_leaves_the_settled, a_drop_leads_to_the_rest,
     a_live_plan_aims_in_its_classes, a_live_writer_aims, a_mark_settles_what_was_aimed_at,
     a_plan_aims_where_it_leads, a_plan_given_up_leaves_the_settled, a_put_leads_to_its_version,
-    a_stamp_leaves_that_stamp, a_written_cell_leaves_the_lists, cells_that_come_leave_the_lists,
-    debt_is_bounded, latches_leave_the_settled, own_writes_follow_the_versions,
+    a_served_schema_is_lawful, a_stamp_leaves_that_stamp, a_written_cell_leaves_the_lists,
+    cells_that_come_leave_the_lists, debt_is_bounded, latches_leave_the_settled,
+    own_writes_follow_the_versions,
 };
 pub use state::{Counters, State, is_marked, open_in, tx_of};
