@@ -31,8 +31,8 @@ use rdb_store::{
     an_image_holds_one_list, classes_rest_on_their_cells, granted_pages_change_nothing,
 };
 
-/// Of a schema whose indexes a store serves, what each class holds rests on its own cells, stays as zero cells come, and is one list. The laws
-/// below ask no more of a schema.
+/// Of a schema whose indexes a store serves, what each class holds rests on its own cells, stays as zero cells come, and is one list. The
+/// laws below ask no more of a schema.
 pub fn a_served_schema_is_lawful()
     ensures { (schema : Schema) → IsSchema schema → IsServed schema → IsLawful schema }
 {
