@@ -1,2 +1,4 @@
+mod FillLemmas
+mod FreeCells
 mod KeptLemmas
 mod Writing

@@ -2,7 +2,14 @@
 //! the traits `Cells`, `Region` and `Index` alone.
 #![tactic(auto)]
 
+#[cfg(test)]
+mod filling;
+pub mod key_table;
+#[cfg(test)]
+mod tree_tests;
 mod trial;
+#[cfg(test)]
+mod world;
 mod write;
 
 pub use trial::{PLACES, put_version, take_version};

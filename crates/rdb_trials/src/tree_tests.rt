@@ -1,0 +1,330 @@
+//! A tree index beside a sorted list, and against a checker of its shape.
+ghost use Rattle.std.specs.Prelude.{◌≡◌, ◌<◌, ℕ, List, length};
+ghost use Rattle.rdb_pages.specs.declared.cell.CellRef.{CellRef as RefValue};
+ghost use Rattle.rdb_cells.specs.Index.{Lists};
+ghost use Rattle.rdb_cells.specs.Memory.{memory_image};
+ghost use Rattle.rdb_tree.specs.Nature.{tree_nature};
+ghost use Rattle.rdb_trials.specs.KeyTable.{table_meaning};
+
+use crate::filling::{Claim, checked, empty_head_at, put_some, take_some};
+use crate::key_table::KeyTable;
+use crate::trial::PLACES;
+use crate::world::{
+    ALL_CELLS, CLASS, Coming, Entry, Fields, Plot, VERSIONS, cells_with, entries, key_of, sorted, table,
+    versions_of,
+};
+use rdb_base::list::NoMemory;
+use rdb_base::operation::Place;
+use rdb_base::steps::Steps;
+use rdb_cells::doubles::memory::MemoryCells;
+use rdb_cells::{Cells, Index, IndexHead, Keys, NONE, Plan, TREE_PART, TreeNode, is_zero};
+use rdb_pages::CellRef;
+use rdb_tree::Tree;
+use std::alloc::Global;
+use std::marker::Brand;
+use std::process::Abort;
+use std::sync::ledger::{Blank, Ledger};
+use std::test::*;
+
+/// The most comparisons of a seek: seven on each of the five levels that a tree of 1,002 versions has at most.
+const SEEK_STEPS: usize = 35;
+
+/// The least keys of a node that isn't the root.
+const LEAST_KEYS: usize = 3;
+
+const HUNDRED: usize = 100;
+
+/// Each how many-th entry is looked up.
+const LOOKED_UP: usize = 20;
+
+/// More levels than any tree has here.
+const LEVELS: u32 = 6;
+
+/// What a part of a tree has.
+#[derive(Clone, Copy)]
+struct Part {
+    levels: u32,
+    nodes: usize,
+    versions: usize,
+}
+
+/// Checks the shape from a node on: how many keys each has, and that all leaves stand at one level.
+fn part_at(
+    rt: &impl Abort,
+    cells: &MemoryCells,
+    at: CellRef,
+    least: usize,
+    levels: u32,
+) -> Part {
+    assert!(rt; levels > 0 && cells.holds(at), "no node {}", at.number);
+    let node = TreeNode::of_cell(cells.read(at));
+    let count = node.count as usize;
+    assert!(rt; count >= least && count <= 7, "{count} keys in {}", at.number);
+    let mut part = Part {
+        levels: 1,
+        nodes: 1,
+        versions: count,
+    };
+    if node.leaf {
+        return part;
+    }
+    for place in 0..=count {
+        let below = part_at(rt, cells, node.children[place], LEAST_KEYS, levels - 1);
+        assert!(rt; place == 0 || part.levels == below.levels + 1, "two levels");
+        part.levels = below.levels + 1;
+        part.nodes = part.nodes.saturating_add(below.nodes);
+        part.versions = part.versions.saturating_add(below.versions);
+    }
+    part
+}
+
+/// How many cells are free.
+fn free_cells(rt: &impl Abort, cells: &MemoryCells) -> usize {
+    let mut count = 0usize;
+    for place in 0..ALL_CELLS {
+        let at = CellRef {
+            number: place as u32 + 1,
+        };
+        assert!(rt; cells.holds(at), "no cell {}", at.number);
+        if is_zero(cells.read(at)) {
+            count = count.saturating_add(1);
+        }
+    }
+    count
+}
+
+/// Checks the shape of a tree of so many versions, and that every cell is a header, a node or free.
+fn shape(rt: &impl Abort, cells: &MemoryCells, tree: &Tree, versions: usize) {
+    assert!(rt; cells.holds(tree.head), "no head");
+    let root = IndexHead::root_in(cells.read(tree.head), 0);
+    let part = if root == NONE {
+        Part {
+            levels: 0,
+            nodes: 0,
+            versions: 0,
+        }
+    } else {
+        part_at(rt, cells, root, 1, LEVELS)
+    };
+    assert_eq!(rt; part.versions, versions);
+    let used = (VERSIONS as usize).saturating_add(part.nodes);
+    assert_eq!(rt; used.saturating_add(free_cells(rt, cells)), ALL_CELLS);
+}
+
+/// Stops the test where these aren't the entries' versions, in their order.
+fn same_versions(rt: &impl Abort, refs: &[CellRef], entries: &[Entry]) {
+    assert_eq!(rt; refs.len(), entries.len());
+    for place in 0..refs.len().min(entries.len()) {
+        assert!(rt; refs[place] == entries[place].version, "place {place}");
+    }
+}
+
+/// The entries with a key among sorted ones.
+fn with_key(alloc: Global, sorted: &[Entry], key: u32) -> Result<Vec<Entry>, NoMemory> {
+    let mut found = Vec::new(alloc);
+    for entry in sorted {
+        if entry.key == key {
+            found.push(*entry)?;
+        }
+    }
+    Ok(found)
+}
+
+/// The version of the entry at a place, if there is one.
+fn version_of(sorted: &[Entry], place: usize) -> Option<CellRef> {
+    sorted.get(place).map(|entry| entry.version)
+}
+
+/// Seeks up and down from a place, and counts the comparisons of each.
+fn seeks<L: Ledger>(
+    rt: &impl Abort,
+    cells: &MemoryCells,
+    keys: &KeyTable,
+    tree: &Tree,
+    place: &Place,
+    wanted: (Option<CellRef>, Option<CellRef>),
+    steps: &mut Steps<L>,
+)
+    requires standing { (listed : List RefValue) × (nodes : List ℕ)
+        × Lists (tree_nature tree.now.class tree.now.head.number) (table_meaning keys.now.rows) (memory_image cells.now) listed nodes }
+{
+    let (above, below) = wanted;
+    keys.compared.set(0);
+    assert!(rt; tree.seek(cells, keys, place, true, steps) == above, "up");
+    assert!(rt; keys.compared.get() <= SEEK_STEPS, "steps up");
+    keys.compared.set(0);
+    assert!(rt; tree.seek(cells, keys, place, false, steps) == below, "down");
+    assert!(rt; keys.compared.get() <= SEEK_STEPS, "steps down");
+}
+
+/// Compares the look-ups by the key and the id of an entry with the sorted entries.
+fn lookups_at<L: Ledger>(
+    rt: &impl Abort,
+    cells: &MemoryCells,
+    keys: &KeyTable,
+    tree: &Tree,
+    fields: Fields,
+    sorted: &[Entry],
+    place: usize,
+    steps: &mut Steps<L>,
+) -> Result<(), NoMemory>
+    requires place { place < length sorted.now }
+    requires standing { (listed : List RefValue) × (nodes : List ℕ)
+        × Lists (tree_nature tree.now.class tree.now.head.number) (table_meaning keys.now.rows) (memory_image cells.now) listed nodes }
+{
+    let entry = sorted[place];
+    let own = Some(entry.version);
+    let above = version_of(sorted, place + 1);
+    let below = if place == 0 {
+        None
+    } else {
+        version_of(sorted, place - 1)
+    };
+    let key = key_of(tree.alloc, fields, entry.key)?;
+    let equal = tree.equal(cells, keys, &key, steps)?;
+    let wanted = with_key(tree.alloc, sorted, entry.key)?;
+    same_versions(rt, equal.as_slice(), wanted.as_slice());
+    let at = Place::At { key, id: entry.id };
+    seeks(rt, cells, keys, tree, &at, (above, below), steps);
+    // no version has the next id
+    let key = key_of(tree.alloc, fields, entry.key)?;
+    let behind = Place::At {
+        key,
+        id: entry.id.saturating_add(1),
+    };
+    seeks(rt, cells, keys, tree, &behind, (above, own), steps);
+    Ok(())
+}
+
+/// Compares look-ups from all over the tree with the sorted entries.
+fn lookups<L: Ledger>(
+    rt: &impl Abort,
+    cells: &MemoryCells,
+    keys: &KeyTable,
+    tree: &Tree,
+    fields: Fields,
+    sorted: &[Entry],
+    blank: Blank,
+) -> Result<(), NoMemory>
+    requires name { blank.name ≡ L.name }
+    requires parts { blank.parts ≡ L.parts }
+    requires some_part { 0 < blank.parts }
+    requires standing { (listed : List RefValue) × (nodes : List ℕ)
+        × Lists (tree_nature tree.now.class tree.now.head.number) (table_meaning keys.now.rows) (memory_image cells.now) listed nodes }
+{
+    let mut steps = Steps::<L>::start(blank);
+    let first = version_of(sorted, 0);
+    let last = sorted.last().map(|entry| entry.version);
+    seeks(rt, cells, keys, tree, &Place::Start, (first, None), &mut steps);
+    seeks(rt, cells, keys, tree, &Place::End, (None, last), &mut steps);
+    for place in 0..sorted.len() {
+        if place % LOOKED_UP == 0 {
+            lookups_at(rt, cells, keys, tree, fields, sorted, place, &mut steps)?;
+        }
+    }
+    Ok(())
+}
+
+/// Compares a tree with the entries that it is to list.
+fn compare(
+    rt: &impl Abort,
+    cells: &MemoryCells,
+    keys: &KeyTable,
+    tree: &Tree,
+    fields: Fields,
+    entries: &[Entry],
+) -> Result<(), NoMemory>
+    requires standing { (listed : List RefValue) × (nodes : List ℕ)
+        × Lists (tree_nature tree.now.class tree.now.head.number) (table_meaning keys.now.rows) (memory_image cells.now) listed nodes }
+{
+    let sorted = sorted(tree.alloc, entries)?;
+    let refs = tree.refs(cells)?;
+    same_versions(rt, refs.as_slice(), sorted.as_slice());
+    shape(rt, cells, tree, entries.len());
+    lookups::<Brand>(rt, cells, keys, tree, fields, sorted.as_slice(), Blank::new(1))
+}
+
+/// Puts the versions into an empty tree and takes them out again in the same order, and compares at each hundredth.
+fn fill_and_empty(
+    rt: &impl Abort,
+    cells: &mut MemoryCells,
+    keys: &KeyTable,
+    tree: &Tree,
+    fields: Fields,
+    entries: &[Entry],
+) -> Result<(), NoMemory> {
+    let versions = versions_of(tree.alloc, entries)?;
+    let versions = versions.as_slice();
+    assert_eq!(rt; versions.len(), entries.len());
+    empty_head_at(rt, cells, tree.head);
+    checked(rt, cells, keys, versions);
+    let claim = Claim {
+        class: tree.class,
+        cells: TREE_PART as usize,
+    };
+    let mut plan = Plan::reserve(tree.alloc, PLACES)?;
+    let mut from = 0;
+    while from < versions.len() {
+        let to = from.saturating_add(HUNDRED).min(versions.len());
+        plan = put_some(rt, tree, keys, claim, cells, versions, (from, to), plan);
+        compare(rt, &*cells, keys, tree, fields, &entries[..to])?;
+        from = to;
+    }
+    let mut from = 0;
+    while from < versions.len() {
+        let to = from.saturating_add(HUNDRED).min(versions.len());
+        plan = take_some(tree, keys, claim, cells, versions, (from, to), plan);
+        compare(rt, &*cells, keys, tree, fields, &entries[to..])?;
+        from = to;
+    }
+    Ok(())
+}
+
+fn run(rt: &impl Abort, alloc: Global, plot: Plot) -> Result<(), Fail> {
+    let entries = entries(alloc, plot)?;
+    let mut cells = cells_with(rt, alloc, entries.as_slice())?;
+    let keys = table(rt, alloc, plot)?;
+    let tree = Tree::of(alloc, CLASS, 0);
+    fill_and_empty(rt, &mut cells, &keys, &tree, plot.fields, entries.as_slice())?;
+    Ok(())
+}
+
+#[test]
+fn versions_come_and_go_ascending(rt: HostRuntime) -> Result<(), Fail> {
+    let plot = Plot {
+        fields: Fields::Number,
+        keys: VERSIONS,
+        coming: Coming::Ascending,
+    };
+    run(&rt, rt.alloc(), plot)
+}
+
+#[test]
+fn versions_come_and_go_descending(rt: HostRuntime) -> Result<(), Fail> {
+    let plot = Plot {
+        fields: Fields::Text,
+        keys: VERSIONS,
+        coming: Coming::Descending,
+    };
+    run(&rt, rt.alloc(), plot)
+}
+
+#[test]
+fn versions_come_and_go_mixed(rt: HostRuntime) -> Result<(), Fail> {
+    let plot = Plot {
+        fields: Fields::Four,
+        keys: VERSIONS,
+        coming: Coming::Mixed,
+    };
+    run(&rt, rt.alloc(), plot)
+}
+
+#[test]
+fn hundreds_of_versions_have_one_key(rt: HostRuntime) -> Result<(), Fail> {
+    let plot = Plot {
+        fields: Fields::NumberAndText,
+        keys: 4,
+        coming: Coming::Mixed,
+    };
+    run(&rt, rt.alloc(), plot)
+}
