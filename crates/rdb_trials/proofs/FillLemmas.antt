@@ -1,19 +1,27 @@
 -- Versions that are put into an index, or taken out of it, in their order.
-use Rattle.std.proofs.Common.{◌≡◌, ◌<◌, ◌≤◌, ◌+◌, ◌++◌, ◌==◌, zero, suc, ℕ, List, [], ◌∷◌, take, drop, slice_get, length, Option, Some, IsSome, cond, inl, inr, refl, sym, ap, subst, ◌∙◌, rules, arith}
+use Rattle.std.proofs.Common.{◌≡◌, ◌<◌, ◌≤◌, ◌+◌, ◌++◌, ◌==◌, zero, suc, ℕ, List, [], ◌∷◌, take, drop, slice_get, get_or, length, Option, Some, IsSome, cond, inl, inr, refl, sym, ap, subst, ◌∙◌, rules, arith}
 use Rattle.std.proofs.lemmas.List.{take-append-drop}
 use Rattle.std.proofs.lemmas.List.Sorted.{IsPermutation-middle, IsPermutation-trans, IsPermutation-sym, IsPermutation-append_comm, Contains-permutation}
+use Rattle.std.proofs.lemmas.Option.{slice_get-get_or}
 use Rattle.std.specs.List.{Contains}
 use Rattle.std.specs.Option.{option_map_or}
 use Rattle.std.specs.Prelude.{IsPermutation}
 use Rattle.rdb_base.specs.declared.value.Value.{Value}
+use Rattle.rdb_pages.specs.declared.cell.Cell.{Cell}
 use Rattle.rdb_pages.specs.declared.cell.CellRef.{CellRef}
+use Rattle.rdb_cells.specs.declared.formats.version.VersionHeader.{VersionHeader}
+use Rattle.rdb_cells.specs.declared.kind.Kind.TheVariants as kind
 use Rattle.rdb_cells.specs.Images.{Image}
 use Rattle.rdb_cells.specs.Index.{Nature}
 use Rattle.rdb_cells.specs.Keys.{Meaning, Version, Sayings, says, SameVersionCells, RestsOnVersions, IsUnlisted, ListsVersions}
+use Rattle.rdb_cells.specs.OneKey.{version_of_header, is_version}
 use Rattle.rdb_cells.specs.PlainLaws.{lists_again}
+use Rattle.rdb_cells.specs.VersionFormat.{header_in}
+use Rattle.rdb_cells.specs.Words.{IsOfKind}
 use Rattle.rdb_cells.proofs.IndexLemmas.{says_again}
 use Rattle.rdb_cells.proofs.ListedLemmas.{contains_either, lists_more, lists_less, lists_in_order}
 use Rattle.rdb_trials.specs.Filled.{IsFilled, AreBelow}
+use Rattle.rdb_trials.specs.KeyTable.{table_meaning, version_by, version_with}
 use Rattle.rdb_trials.specs.Kept.{IsKept, Lacks}
 use Rattle.rdb_trials.proofs.KeptLemmas.{alike_permuted}
 
@@ -61,7 +69,7 @@ module _ (index : Nature) (keys : Meaning) where
   pub next_lacks : (image : Image) (versions : List CellRef) (place : ℕ) (version : CellRef) → ((key : List Value) → index.Takes key) → slice_get versions place ≡ Some version → IsFilled index keys image versions (take place versions) → Lacks index keys image (take place versions) version
   next_lacks image versions place version takes at filled = record {
     kept = filled.kept;
-    versions = lists_next (says keys image) versions place version at filled.versions;
+    versions = lists_next (says keys image) versions place version at filled.fit;
     taken = λ v is. takes v.key;
   }
 
@@ -81,7 +89,7 @@ module _ (index : Nature) (keys : Meaning) where
       let next : suc place ≡ place + 1 = omega arith in
       subst (λ (n : ℕ). IsFilled index keys after versions (take n versions)) next (record {
         kept = kept_in_order after (version ∷ take place versions) (take (suc place) versions) (next_order versions place version at) kept;
-        versions = versions_again before after versions rests same filled.versions;
+        fit = versions_again before after versions rests same filled.fit;
       })
 
   pub kept_here : (image : Image) (versions : List CellRef) (place : ℕ) (version : CellRef) → slice_get versions place ≡ Some version → IsFilled index keys image versions (drop place versions) → IsKept index keys image (version ∷ drop (place + 1) versions)
@@ -92,7 +100,7 @@ module _ (index : Nature) (keys : Meaning) where
   pub filled_less : (before after : Image) (versions : List CellRef) (place : ℕ) → RestsOnVersions keys → SameVersionCells before after → IsFilled index keys before versions (drop place versions) → IsKept index keys after (drop (place + 1) versions) → IsFilled index keys after versions (drop (place + 1) versions)
   filled_less before after versions place rests same filled kept = record {
     kept = kept;
-    versions = versions_again before after versions rests same filled.versions;
+    fit = versions_again before after versions rests same filled.fit;
   }
 
 module _ (said : Sayings) where
@@ -136,3 +144,16 @@ module _ (said : Sayings) where
     where
       none : (r : CellRef) → ¬ Contains [] r
       none r within = let low = within.1 in absurd (omega arith)
+
+-- a version whose header names a key of the table comes to those below its id
+pub checked_one : (rows : List (List Value)) (image : Image) (version : CellRef) (cell : Cell) (bound : ℕ) (h : VersionHeader) → image version.number ≡ Some cell → IsOfKind cell kind.Version → h ≡ header_in cell → h.first_row.number < length rows → bound ≤ h.id → (listed : List CellRef) → AreBelow (says (table_meaning rows) image) bound listed → AreBelow (says (table_meaning rows) image) (h.id + 1) (version ∷ listed)
+checked_one rows image version cell bound h held is_header is within above listed below =
+    let place = (header_in cell).first_row.number in
+    let there : place < length rows = subst (λ (g : VersionHeader). g.first_row.number < length rows) is within in
+    let key = get_or rows place [] in
+    let named : slice_get rows place ≡ Some key = slice_get-get_or rows place [] there in
+    let v = version_of_header key cell in
+    let said : version_by rows (image version.number) ≡ Some v =
+    ap (version_by rows) held ∙ ap (λ (o : Option (List Value)). version_with o cell) named ∙ is_version key cell is_header in
+    subst (λ (g : VersionHeader). AreBelow (says (table_meaning rows) image) (g.id + 1) (version ∷ listed)) (sym is)
+    (below_more (says (table_meaning rows) image) bound listed version v said (subst (λ (g : VersionHeader). bound ≤ g.id) is above) below)

@@ -10,7 +10,7 @@ use Rattle.rdb_trials.specs.Kept.{IsKept}
 -- the index lists these of some versions, all of which it can list
 pub record IsFilled (index : Nature) (keys : Meaning) (image : Image) (versions these : List CellRef) : Type 0 where
   pub kept : IsKept index keys image these
-  pub versions : ListsVersions (says keys image) versions
+  pub fit : ListsVersions (says keys image) versions
 
 -- the versions can be listed, and their ids are below a bound
 pub record AreBelow (said : Sayings) (bound : ℕ) (listed : List CellRef) : Type 0 where

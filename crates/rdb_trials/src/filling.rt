@@ -133,7 +133,8 @@ fn checked_version(
         "no key {}",
         header.first_row.number
     );
-    assert!(rt; header.id >= bound && header.id < u64::MAX, "id {}", header.id);
+    assert!(rt; header.id >= bound, "id {}", header.id);
+    assert!(rt; header.id < u64::MAX, "id {}", header.id);
     header.id + 1
 }
 

@@ -4,6 +4,8 @@
 
 #[cfg(test)]
 mod filling;
+#[cfg(test)]
+mod hash_tests;
 pub mod key_table;
 #[cfg(test)]
 mod tree_tests;

@@ -10,8 +10,8 @@ use crate::filling::{Claim, checked, empty_head_at, put_some, take_some};
 use crate::key_table::KeyTable;
 use crate::trial::PLACES;
 use crate::world::{
-    ALL_CELLS, CLASS, Coming, Entry, Fields, Plot, VERSIONS, cells_with, entries, key_of, sorted, table,
-    versions_of,
+    ALL_CELLS, CLASS, Coming, Entry, Fields, HUNDRED, LOOKED_UP, Plot, VERSIONS, cells_with,
+    entries, key_of, same_versions, sorted, table, versions_of, with_key,
 };
 use rdb_base::list::NoMemory;
 use rdb_base::operation::Place;
@@ -31,11 +31,6 @@ const SEEK_STEPS: usize = 35;
 
 /// The least keys of a node that isn't the root.
 const LEAST_KEYS: usize = 3;
-
-const HUNDRED: usize = 100;
-
-/// Each how many-th entry is looked up.
-const LOOKED_UP: usize = 20;
 
 /// More levels than any tree has here.
 const LEVELS: u32 = 6;
@@ -109,25 +104,6 @@ fn shape(rt: &impl Abort, cells: &MemoryCells, tree: &Tree, versions: usize) {
     assert_eq!(rt; part.versions, versions);
     let used = (VERSIONS as usize).saturating_add(part.nodes);
     assert_eq!(rt; used.saturating_add(free_cells(rt, cells)), ALL_CELLS);
-}
-
-/// Stops the test where these aren't the entries' versions, in their order.
-fn same_versions(rt: &impl Abort, refs: &[CellRef], entries: &[Entry]) {
-    assert_eq!(rt; refs.len(), entries.len());
-    for place in 0..refs.len().min(entries.len()) {
-        assert!(rt; refs[place] == entries[place].version, "place {place}");
-    }
-}
-
-/// The entries with a key among sorted ones.
-fn with_key(alloc: Global, sorted: &[Entry], key: u32) -> Result<Vec<Entry>, NoMemory> {
-    let mut found = Vec::new(alloc);
-    for entry in sorted {
-        if entry.key == key {
-            found.push(*entry)?;
-        }
-    }
-    Ok(found)
 }
 
 /// The version of the entry at a place, if there is one.

@@ -19,6 +19,12 @@ use std::process::Abort;
 /// How many versions each test puts into an index.
 pub(crate) const VERSIONS: u32 = 1_002;
 
+/// How many versions come or go between two comparisons.
+pub(crate) const HUNDRED: usize = 100;
+
+/// Each how many-th entry is looked up.
+pub(crate) const LOOKED_UP: usize = 20;
+
 /// The class of the index.
 pub(crate) const CLASS: u32 = 0;
 
@@ -180,4 +186,23 @@ pub(crate) fn sorted(alloc: Global, entries: &[Entry]) -> Result<Vec<Entry>, NoM
     let mut sorted = Vec::from_slice(alloc, entries)?;
     sorted.sort_unstable();
     Ok(sorted)
+}
+
+/// Stops the test where these aren't the entries' versions, in their order.
+pub(crate) fn same_versions(rt: &impl Abort, refs: &[CellRef], entries: &[Entry]) {
+    assert_eq!(rt; refs.len(), entries.len());
+    for place in 0..refs.len().min(entries.len()) {
+        assert!(rt; refs[place] == entries[place].version, "place {place}");
+    }
+}
+
+/// The entries with a key, in their order.
+pub(crate) fn with_key(alloc: Global, entries: &[Entry], key: u32) -> Result<Vec<Entry>, NoMemory> {
+    let mut found = Vec::new(alloc);
+    for entry in entries {
+        if entry.key == key {
+            found.push(*entry)?;
+        }
+    }
+    Ok(found)
 }
