@@ -62,7 +62,7 @@ lists_next said xs place x at lists =
     let behind = drop (suc place) xs in
     let round = subst (ListsVersions said) (sym (split_round xs place x at)) lists in
     let turned = IsPermutation-trans (before ++ x ∷ behind) (x ∷ (behind ++ before)) (behind ++ x ∷ before)
-        (IsPermutation-append_comm before (x ∷ behind)) (IsPermutation-sym (behind ++ x ∷ before) (x ∷ (behind ++ before)) (IsPermutation-middle behind x before)) in
+    (IsPermutation-append_comm before (x ∷ behind)) (IsPermutation-sym (behind ++ x ∷ before) (x ∷ (behind ++ before)) (IsPermutation-middle behind x before)) in
     lists_back said behind (x ∷ before) (lists_in_order said (before ++ x ∷ behind) (behind ++ x ∷ before) turned round)
 
 module _ (index : Nature) (keys : Meaning) where

@@ -14,9 +14,7 @@ ghost use Rattle.rdb_trials.specs.Kept.{empty_plan};
 use crate::key_table::KeyTable;
 use crate::trial::{put_version, take_version};
 use rdb_cells::doubles::memory::MemoryCells;
-use rdb_cells::{
-    Cells, HasPairs, Index, IndexHead, Keys, Kind, NONE, Plan, Region, VersionHeader,
-};
+use rdb_cells::{Cells, HasPairs, Index, IndexHead, Keys, Kind, NONE, Plan, Region, VersionHeader};
 use rdb_pages::{Cell, CellRef};
 use std::process::Abort;
 

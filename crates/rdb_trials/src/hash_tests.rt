@@ -10,13 +10,14 @@ use crate::filling::{Claim, checked, empty_head_at, put_some, take_some};
 use crate::key_table::KeyTable;
 use crate::trial::PLACES;
 use crate::world::{
-    CLASS, Coming, Entry, Fields, HUNDRED, LOOKED_UP, Plot, VERSIONS, cells_with, entries, key_of,
-    same_versions, table, versions_of, with_key,
+    CLASS, Coming, Entry, Fields, LOOKED_UP, Plot, VERSIONS, cells_with, entries, key_of,
+    next_stop, same_versions, table, versions_of, with_key,
 };
 use rdb_base::list::NoMemory;
 use rdb_cells::doubles::memory::MemoryCells;
 use rdb_cells::{HASH_PART, Index, Plan};
 use rdb_hash::Hash;
+use rdb_pages::CellRef;
 use std::alloc::Global;
 use std::process::Abort;
 use std::test::*;
@@ -56,10 +57,9 @@ fn fill_and_empty(
     hash: &Hash,
     fields: Fields,
     entries: &[Entry],
+    versions: &[CellRef],
 ) -> Result<(), NoMemory> {
-    let versions = versions_of(hash.alloc, entries)?;
-    let versions = versions.as_slice();
-    assert_eq!(rt; versions.len(), entries.len());
+    assert!(rt; versions.len() == entries.len(), "versions");
     empty_head_at(rt, cells, hash.head);
     checked(rt, cells, keys, versions);
     let claim = Claim {
@@ -69,17 +69,17 @@ fn fill_and_empty(
     let mut plan = Plan::reserve(hash.alloc, PLACES)?;
     let mut from = 0;
     while from < versions.len() {
-        let to = from.saturating_add(HUNDRED).min(versions.len());
+        let to = next_stop(from, versions.len());
         plan = put_some(rt, hash, keys, claim, cells, versions, (from, to), plan);
         compare(rt, &*cells, keys, hash, fields, &entries[..to])?;
         from = to;
     }
-    let mut from = 0;
-    while from < versions.len() {
-        let to = from.saturating_add(HUNDRED).min(versions.len());
-        plan = take_some(hash, keys, claim, cells, versions, (from, to), plan);
+    let mut gone = 0;
+    while gone < versions.len() {
+        let to = next_stop(gone, versions.len());
+        plan = take_some(hash, keys, claim, cells, versions, (gone, to), plan);
         compare(rt, &*cells, keys, hash, fields, &entries[to..])?;
-        from = to;
+        gone = to;
     }
     Ok(())
 }
@@ -89,7 +89,16 @@ fn run(rt: &impl Abort, alloc: Global, plot: Plot) -> Result<(), Fail> {
     let mut cells = cells_with(rt, alloc, entries.as_slice())?;
     let keys = table(rt, alloc, plot)?;
     let hash = Hash::of(alloc, CLASS, 0);
-    fill_and_empty(rt, &mut cells, &keys, &hash, plot.fields, entries.as_slice())?;
+    let versions = versions_of(alloc, entries.as_slice())?;
+    fill_and_empty(
+        rt,
+        &mut cells,
+        &keys,
+        &hash,
+        plot.fields,
+        entries.as_slice(),
+        versions.as_slice(),
+    )?;
     Ok(())
 }
 

@@ -10,14 +10,16 @@ use crate::filling::{Claim, checked, empty_head_at, put_some, take_some};
 use crate::key_table::KeyTable;
 use crate::trial::PLACES;
 use crate::world::{
-    ALL_CELLS, CLASS, Coming, Entry, Fields, HUNDRED, LOOKED_UP, Plot, VERSIONS, cells_with,
-    entries, key_of, same_versions, sorted, table, versions_of, with_key,
+    ALL_CELLS, CLASS, Coming, Entry, Fields, LOOKED_UP, Plot, VERSIONS, cells_with, entries,
+    key_of, next_stop, same_versions, sorted, table, versions_of, with_key,
 };
 use rdb_base::list::NoMemory;
 use rdb_base::operation::Place;
 use rdb_base::steps::Steps;
 use rdb_cells::doubles::memory::MemoryCells;
-use rdb_cells::{Cells, Index, IndexHead, Keys, NONE, Plan, TREE_PART, TreeNode, is_zero};
+use rdb_cells::{
+    Cells, Index, IndexHead, Keys, NONE, Plan, TREE_CHILDREN, TREE_PART, TreeNode, is_zero,
+};
 use rdb_pages::CellRef;
 use rdb_tree::Tree;
 use std::alloc::Global;
@@ -44,17 +46,13 @@ struct Part {
 }
 
 /// Checks the shape from a node on: how many keys each has, and that all leaves stand at one level.
-fn part_at(
-    rt: &impl Abort,
-    cells: &MemoryCells,
-    at: CellRef,
-    least: usize,
-    levels: u32,
-) -> Part {
-    assert!(rt; levels > 0 && cells.holds(at), "no node {}", at.number);
+fn part_at(rt: &impl Abort, cells: &MemoryCells, at: CellRef, least: usize, levels: u32) -> Part {
+    assert!(rt; levels > 0, "too many levels");
+    assert!(rt; cells.holds(at), "no node {}", at.number);
     let node = TreeNode::of_cell(cells.read(at));
     let count = node.count as usize;
-    assert!(rt; count >= least && count <= 7, "{count} keys in {}", at.number);
+    assert!(rt; count >= least, "{count} keys in {}", at.number);
+    assert!(rt; count < TREE_CHILDREN, "{count} keys in {}", at.number);
     let mut part = Part {
         levels: 1,
         nodes: 1,
@@ -63,10 +61,11 @@ fn part_at(
     if node.leaf {
         return part;
     }
-    for place in 0..=count {
+    for place in 0..count + 1 {
         let below = part_at(rt, cells, node.children[place], LEAST_KEYS, levels - 1);
-        assert!(rt; place == 0 || part.levels == below.levels + 1, "two levels");
-        part.levels = below.levels + 1;
+        let height = below.levels.saturating_add(1);
+        assert!(rt; place == 0 || part.levels == height, "two levels");
+        part.levels = height;
         part.nodes = part.nodes.saturating_add(below.nodes);
         part.versions = part.versions.saturating_add(below.versions);
     }
@@ -126,10 +125,12 @@ fn seeks<L: Ledger>(
 {
     let (above, below) = wanted;
     keys.compared.set(0);
-    assert!(rt; tree.seek(cells, keys, place, true, steps) == above, "up");
+    let up = tree.seek(cells, keys, place, true, steps);
+    assert!(rt; up == above, "up");
     assert!(rt; keys.compared.get() <= SEEK_STEPS, "steps up");
     keys.compared.set(0);
-    assert!(rt; tree.seek(cells, keys, place, false, steps) == below, "down");
+    let down = tree.seek(cells, keys, place, false, steps);
+    assert!(rt; down == below, "down");
     assert!(rt; keys.compared.get() <= SEEK_STEPS, "steps down");
 }
 
@@ -191,7 +192,15 @@ fn lookups<L: Ledger>(
     let mut steps = Steps::<L>::start(blank);
     let first = version_of(sorted, 0);
     let last = sorted.last().map(|entry| entry.version);
-    seeks(rt, cells, keys, tree, &Place::Start, (first, None), &mut steps);
+    seeks(
+        rt,
+        cells,
+        keys,
+        tree,
+        &Place::Start,
+        (first, None),
+        &mut steps,
+    );
     seeks(rt, cells, keys, tree, &Place::End, (None, last), &mut steps);
     for place in 0..sorted.len() {
         if place % LOOKED_UP == 0 {
@@ -217,7 +226,15 @@ fn compare(
     let refs = tree.refs(cells)?;
     same_versions(rt, refs.as_slice(), sorted.as_slice());
     shape(rt, cells, tree, entries.len());
-    lookups::<Brand>(rt, cells, keys, tree, fields, sorted.as_slice(), Blank::new(1))
+    lookups::<Brand>(
+        rt,
+        cells,
+        keys,
+        tree,
+        fields,
+        sorted.as_slice(),
+        Blank::new(1),
+    )
 }
 
 /// Puts the versions into an empty tree and takes them out again in the same order, and compares at each hundredth.
@@ -228,10 +245,9 @@ fn fill_and_empty(
     tree: &Tree,
     fields: Fields,
     entries: &[Entry],
+    versions: &[CellRef],
 ) -> Result<(), NoMemory> {
-    let versions = versions_of(tree.alloc, entries)?;
-    let versions = versions.as_slice();
-    assert_eq!(rt; versions.len(), entries.len());
+    assert!(rt; versions.len() == entries.len(), "versions");
     empty_head_at(rt, cells, tree.head);
     checked(rt, cells, keys, versions);
     let claim = Claim {
@@ -241,17 +257,17 @@ fn fill_and_empty(
     let mut plan = Plan::reserve(tree.alloc, PLACES)?;
     let mut from = 0;
     while from < versions.len() {
-        let to = from.saturating_add(HUNDRED).min(versions.len());
+        let to = next_stop(from, versions.len());
         plan = put_some(rt, tree, keys, claim, cells, versions, (from, to), plan);
         compare(rt, &*cells, keys, tree, fields, &entries[..to])?;
         from = to;
     }
-    let mut from = 0;
-    while from < versions.len() {
-        let to = from.saturating_add(HUNDRED).min(versions.len());
-        plan = take_some(tree, keys, claim, cells, versions, (from, to), plan);
+    let mut gone = 0;
+    while gone < versions.len() {
+        let to = next_stop(gone, versions.len());
+        plan = take_some(tree, keys, claim, cells, versions, (gone, to), plan);
         compare(rt, &*cells, keys, tree, fields, &entries[to..])?;
-        from = to;
+        gone = to;
     }
     Ok(())
 }
@@ -261,7 +277,16 @@ fn run(rt: &impl Abort, alloc: Global, plot: Plot) -> Result<(), Fail> {
     let mut cells = cells_with(rt, alloc, entries.as_slice())?;
     let keys = table(rt, alloc, plot)?;
     let tree = Tree::of(alloc, CLASS, 0);
-    fill_and_empty(rt, &mut cells, &keys, &tree, plot.fields, entries.as_slice())?;
+    let versions = versions_of(alloc, entries.as_slice())?;
+    fill_and_empty(
+        rt,
+        &mut cells,
+        &keys,
+        &tree,
+        plot.fields,
+        entries.as_slice(),
+        versions.as_slice(),
+    )?;
     Ok(())
 }
 

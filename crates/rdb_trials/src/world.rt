@@ -1,5 +1,5 @@
 //! What the tests put into an index: versions with their keys, as plain data and in cells.
-ghost use Rattle.std.specs.Prelude.{◌<◌, ◌≤◌};
+ghost use Rattle.std.specs.Prelude.{◌<◌, ◌≤◌, length};
 
 use crate::key_table::KeyTable;
 use rdb_base::identity::Stamp;
@@ -124,7 +124,8 @@ fn key_at(plot: Plot, place: u32) -> u32
         Coming::Descending => VERSIONS - 1 - place,
         Coming::Mixed => place * 389 % VERSIONS,
     };
-    (u64::from(place) * u64::from(plot.keys) / u64::from(VERSIONS)) as u32
+    let key = u64::from(place) * u64::from(plot.keys) / u64::from(VERSIONS);
+    u32::try_from(key).unwrap_or(0)
 }
 
 /// The versions of a plot, in the order in which they come.
@@ -191,8 +192,13 @@ pub(crate) fn sorted(alloc: Global, entries: &[Entry]) -> Result<Vec<Entry>, NoM
 /// Stops the test where these aren't the entries' versions, in their order.
 pub(crate) fn same_versions(rt: &impl Abort, refs: &[CellRef], entries: &[Entry]) {
     assert_eq!(rt; refs.len(), entries.len());
-    for place in 0..refs.len().min(entries.len()) {
-        assert!(rt; refs[place] == entries[place].version, "place {place}");
+    for (at, entry) in refs.iter().zip(entries) {
+        assert!(rt;
+            *at == entry.version,
+            "{} in place of {}",
+            at.number,
+            entry.version.number
+        );
     }
 }
 
@@ -205,4 +211,17 @@ pub(crate) fn with_key(alloc: Global, entries: &[Entry], key: u32) -> Result<Vec
         }
     }
     Ok(found)
+}
+
+/// Where the next hundred ends.
+pub(crate) fn next_stop(from: usize, end: usize) -> usize
+    requires { from < end }
+    ensures above { from < result }
+    ensures within { result ≤ end }
+{
+    if end - from > HUNDRED {
+        from + HUNDRED
+    } else {
+        end
+    }
 }
