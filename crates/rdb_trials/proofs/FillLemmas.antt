@@ -1,6 +1,6 @@
 -- Versions that are put into an index, or taken out of it, in their order.
 use Rattle.std.proofs.Common.{◌≡◌, ◌<◌, ◌≤◌, ◌+◌, ◌++◌, ◌==◌, zero, suc, ℕ, List, [], ◌∷◌, take, drop, slice_get, get_or, length, Option, Some, IsSome, cond, inl, inr, refl, sym, ap, subst, ◌∙◌, rules, arith}
-use Rattle.std.proofs.lemmas.List.{take-append-drop}
+use Rattle.std.proofs.lemmas.List.{take_all}
 use Rattle.std.proofs.lemmas.List.Sorted.{IsPermutation-middle, IsPermutation-trans, IsPermutation-sym, IsPermutation-append_comm, Contains-permutation}
 use Rattle.std.proofs.lemmas.Option.{slice_get-get_or}
 use Rattle.std.specs.List.{Contains}
@@ -12,7 +12,7 @@ use Rattle.rdb_pages.specs.declared.cell.CellRef.{CellRef}
 use Rattle.rdb_cells.specs.declared.formats.version.VersionHeader.{VersionHeader}
 use Rattle.rdb_cells.specs.declared.kind.Kind.TheVariants as kind
 use Rattle.rdb_cells.specs.Images.{Image}
-use Rattle.rdb_cells.specs.Index.{Nature}
+use Rattle.rdb_cells.specs.Index.{Nature, Lists}
 use Rattle.rdb_cells.specs.Keys.{Meaning, Version, Sayings, says, SameVersionCells, RestsOnVersions, IsUnlisted, ListsVersions}
 use Rattle.rdb_cells.specs.OneKey.{version_of_header, is_version}
 use Rattle.rdb_cells.specs.PlainLaws.{lists_again}
@@ -72,6 +72,16 @@ module _ (index : Nature) (keys : Meaning) where
     versions = lists_next (says keys image) versions place version at filled.fit;
     taken = λ v is. takes v.key;
   }
+
+  -- an index that lists nothing, and one that lists all
+  pub filled_none : (image : Image) (versions : List CellRef) → Lists index keys image [] [] → ListsVersions (says keys image) versions → IsFilled index keys image versions []
+  filled_none image versions lists fit = record {
+    kept = record { listed = []; nodes = []; lists = lists; alike = λ r. refl };
+    fit = fit;
+  }
+
+  pub filled_whole : (image : Image) (versions : List CellRef) (many : ℕ) → length versions ≤ many → IsFilled index keys image versions (take many versions) → IsFilled index keys image versions versions
+  filled_whole image versions many all filled = subst (IsFilled index keys image versions) (take_all many versions all) filled
 
   kept_in_order : (image : Image) (these others : List CellRef) → IsPermutation these others → IsKept index keys image these → IsKept index keys image others
   kept_in_order image these others order kept = record {

@@ -1,4 +1,5 @@
 mod FillLemmas
 mod FreeCells
 mod KeptLemmas
+mod TreePlaces
 mod Writing

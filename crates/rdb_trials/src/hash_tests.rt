@@ -76,10 +76,10 @@ fn fill_and_empty(
     }
     let mut gone = 0;
     while gone < versions.len() {
-        let to = next_stop(gone, versions.len());
-        plan = take_some(hash, keys, claim, cells, versions, (gone, to), plan);
-        compare(rt, &*cells, keys, hash, fields, &entries[to..])?;
-        gone = to;
+        let stop = next_stop(gone, versions.len());
+        plan = take_some(hash, keys, claim, cells, versions, (gone, stop), plan);
+        compare(rt, &*cells, keys, hash, fields, &entries[stop..])?;
+        gone = stop;
     }
     Ok(())
 }
