@@ -61,8 +61,10 @@ pub(crate) fn put_some<I: Index, C: Region, K: Keys>(
     requires takes { (key : List Value) → (I.nature index.now).Takes key }
     requires places { (places.0 ≤ places.1) × (places.1 ≤ length versions.now) }
     requires plan { plan ≡ empty_plan }
-    requires filled { IsFilled (I.nature index.now) (K.meaning keys.now) (C.Cells.image cells.old) versions.now (take places.0 versions.now) }
-    ensures filled { IsFilled (I.nature index.now) (K.meaning keys.now) (C.Cells.image cells.new) versions.now (take places.1 versions.now) }
+    requires filled { IsFilled (I.nature index.now) (K.meaning keys.now) (C.Cells.image cells.old) versions.now
+        (take places.0 versions.now) }
+    ensures filled { IsFilled (I.nature index.now) (K.meaning keys.now) (C.Cells.image cells.new) versions.now
+        (take places.1 versions.now) }
     ensures plan { result ≡ empty_plan }
 {
     let mut plan = plan;
@@ -88,8 +90,10 @@ pub(crate) fn take_some<I: Index, C: Region, K: Keys>(
     requires class { claim.class ≡ (I.nature index.now).class }
     requires places { (places.0 ≤ places.1) × (places.1 ≤ length versions.now) }
     requires plan { plan ≡ empty_plan }
-    requires filled { IsFilled (I.nature index.now) (K.meaning keys.now) (C.Cells.image cells.old) versions.now (drop places.0 versions.now) }
-    ensures filled { IsFilled (I.nature index.now) (K.meaning keys.now) (C.Cells.image cells.new) versions.now (drop places.1 versions.now) }
+    requires filled { IsFilled (I.nature index.now) (K.meaning keys.now) (C.Cells.image cells.old) versions.now
+        (drop places.0 versions.now) }
+    ensures filled { IsFilled (I.nature index.now) (K.meaning keys.now) (C.Cells.image cells.new) versions.now
+        (drop places.1 versions.now) }
     ensures plan { result ≡ empty_plan }
 {
     let mut plan = plan;

@@ -22,8 +22,8 @@ put_some-plan-requires-clause-places g c = let above = c.next_stop-to.ensures.ab
 pub put_some-plan-requires-clause-filled : goal.put_some-plan-requires-clause-filled
 put_some-plan-requires-clause-filled g c = c.loop-from.invariant.1
 
-pub compare-requires-clause-standing : goal.compare-requires-clause-standing
-compare-requires-clause-standing g c = let kept = c.put_some-plan.ensures.filled.kept in (kept.listed, kept.nodes, kept.lists)
+pub compare-requires : goal.compare-requires
+compare-requires g c = let kept = c.put_some-plan.ensures.filled.kept in (kept.listed, kept.nodes, kept.lists)
 
 pub loop-from-preserved : goal.loop-from-preserved
 loop-from-preserved g c = (c.put_some-plan.ensures.plan, c.put_some-plan.ensures.filled, c.next_stop-to.ensures.within)
@@ -39,8 +39,8 @@ take_some-plan-requires-clause-places g c = let above = c.next_stop-stop.ensures
 pub take_some-plan-requires-clause-filled : goal.take_some-plan-requires-clause-filled
 take_some-plan-requires-clause-filled g c = c.loop-gone.invariant.1
 
-pub compare-requires-2-clause-standing : goal.compare-requires-2-clause-standing
-compare-requires-2-clause-standing g c = let kept = c.take_some-plan.ensures.filled.kept in (kept.listed, kept.nodes, kept.lists)
+pub compare-requires-in-loop-gone : goal.compare-requires-in-loop-gone
+compare-requires-in-loop-gone g c = let kept = c.take_some-plan.ensures.filled.kept in (kept.listed, kept.nodes, kept.lists)
 
 pub loop-gone-preserved : goal.loop-gone-preserved
 loop-gone-preserved g c = (c.take_some-plan.ensures.plan, c.take_some-plan.ensures.filled, c.next_stop-stop.ensures.within)
