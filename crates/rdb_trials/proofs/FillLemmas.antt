@@ -1,5 +1,5 @@
 -- Versions that are put into an index, or taken out of it, in their order.
-use Rattle.std.proofs.Common.{◌≡◌, ◌<◌, ◌≤◌, ◌+◌, ◌++◌, ◌==◌, zero, suc, ℕ, List, [], ◌∷◌, take, drop, slice_get, get_or, length, Option, Some, IsSome, cond, inl, inr, refl, sym, ap, subst, ◌∙◌, rules, arith}
+use Rattle.std.proofs.Common.{◌≡◌, ◌<◌, ◌≤◌, ◌+◌, ◌++◌, zero, suc, ℕ, List, [], ◌∷◌, take, drop, slice_get, get_or, length, Option, Some, IsSome, inl, inr, refl, sym, ap, subst, ◌∙◌, arith}
 use Rattle.std.proofs.lemmas.List.{take_all}
 use Rattle.std.proofs.lemmas.List.Sorted.{IsPermutation-middle, IsPermutation-trans, IsPermutation-sym, IsPermutation-append_comm, Contains-permutation}
 use Rattle.std.proofs.lemmas.Option.{slice_get-get_or}

@@ -1,5 +1,5 @@
 -- What is left of a plan while it is written.
-use Rattle.std.proofs.Common.{◌≡◌, ◌≢◌, ◌==◌, ℕ, List, [], ◌∷◌, ◌++◌, length, Option, Some, IsSome, true, inl, inr, refl, sym, ap, subst, ◌∙◌, rules, arith, eq-eqb}
+use Rattle.std.proofs.Common.{◌≡◌, ◌==◌, ℕ, List, [], ◌∷◌, ◌++◌, length, Option, IsSome, true, inl, inr, refl, sym, ap, subst, ◌∙◌, rules, arith, eq-eqb}
 use Rattle.std.proofs.lemmas.Bool.{false≢true}
 use Rattle.std.proofs.Permutation.{which}
 use Rattle.rdb_pages.specs.declared.cell.Cell.{Cell}

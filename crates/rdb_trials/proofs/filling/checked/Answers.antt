@@ -1,6 +1,5 @@
-use Rattle.std.proofs.Common.{◌≡◌, List, take, subst, length, arith}
+use Rattle.std.proofs.Common.{◌≡◌, take, subst, arith}
 use Rattle.std.proofs.lemmas.List.{take_all}
-use Rattle.rdb_pages.specs.declared.cell.CellRef.{CellRef}
 use Rattle.rdb_cells.specs.Keys.{says, ListsVersions}
 use Rattle.rdb_cells.specs.Memory.{memory_image}
 use Rattle.rdb_trials.specs.KeyTable.{table_meaning}

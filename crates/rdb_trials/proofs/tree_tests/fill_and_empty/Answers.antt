@@ -23,7 +23,7 @@ pub put_some-plan-requires-clause-filled : goal.put_some-plan-requires-clause-fi
 put_some-plan-requires-clause-filled g c = c.loop-from.invariant.1
 
 pub compare-requires : goal.compare-requires
-compare-requires g c = let kept = c.put_some-plan.ensures.filled.kept in (kept.listed, kept.nodes, kept.lists)
+compare-requires g c = let kept = c.put_some-plan.ensures.filled.kept in record { standing = (kept.listed, kept.nodes, kept.lists) }
 
 pub loop-from-preserved : goal.loop-from-preserved
 loop-from-preserved g c = (c.put_some-plan.ensures.plan, c.put_some-plan.ensures.filled, c.next_stop-to.ensures.within)
@@ -40,7 +40,7 @@ pub take_some-plan-requires-clause-filled : goal.take_some-plan-requires-clause-
 take_some-plan-requires-clause-filled g c = c.loop-gone.invariant.1
 
 pub compare-requires-in-loop-gone : goal.compare-requires-in-loop-gone
-compare-requires-in-loop-gone g c = let kept = c.take_some-plan.ensures.filled.kept in (kept.listed, kept.nodes, kept.lists)
+compare-requires-in-loop-gone g c = let kept = c.take_some-plan.ensures.filled.kept in record { standing = (kept.listed, kept.nodes, kept.lists) }
 
 pub loop-gone-preserved : goal.loop-gone-preserved
 loop-gone-preserved g c = (c.take_some-plan.ensures.plan, c.take_some-plan.ensures.filled, c.next_stop-stop.ensures.within)

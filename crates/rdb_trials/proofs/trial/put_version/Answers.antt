@@ -1,5 +1,4 @@
-use Rattle.std.proofs.Common.{◌∷◌, ℕ, List, Option, Bor, sym, ap, subst, ◌∙◌}
-use Rattle.rdb_pages.specs.declared.cell.CellRef.{CellRef}
+use Rattle.std.proofs.Common.{◌∷◌, ℕ, Option, Bor, sym, ap, subst, ◌∙◌}
 use Rattle.rdb_cells.specs.Images.{Image, SameImage}
 use Rattle.rdb_cells.specs.Index.{LacksVersion}
 use Rattle.rdb_cells.specs.Keys.{SameVersionCells}
