@@ -13,7 +13,7 @@ use Rattle.rdb_script.specs.Scripts.{IsScript}
 use Rattle.rdb_runner.specs.Parts.{names_of, HasRefusedScript, HasBadScript, HasBadSchedule}
 use Rattle.rdb_runner.specs.PlainJob.{IsPlainJob, IsOther, is_plain_schedule, plain_lines}
 use Rattle.rdb_runner.specs.PlainSchema.{is_plain_schema}
-use Rattle.rdb_runner.specs.Promise.{IsFirstOther, ArePlain}
+use Rattle.rdb_runner.specs.PlainPromise.{IsFirstOther, ArePlain}
 use Rattle.rdb_runner.specs.Reading.{Sight, AreBytesOf, IsBytesOf, AllRead}
 use Rattle.rdb_runner.specs.SchemaFile.{IsBadSchema}
 
