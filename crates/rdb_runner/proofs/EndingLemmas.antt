@@ -63,7 +63,7 @@ added_none (Some all) = ap Some (sym (append-nil all))
 pub asks_none : (files : List (List ℕ)) (sight : Sight) → sight.asked_then ≡ sight.asked → AsksFirst sight files
 asks_none files sight same = (0, lit≤ tt, same ∙ added_none sight.asked)
 
-take_none : (n : ℕ) → take n ([] {List ℕ}) ≡ []
+take_none : (n : ℕ) → ◌≡◌ {A = List (List ℕ)} (take n []) []
 take_none zero = refl
 take_none (suc n) = refl
 

@@ -63,7 +63,7 @@ IsBadSchedule names sight text =
     (schema schedule client : List ℕ) × (number : ℕ) × AllRead sight names (names_of schema schedule client)
     × HasRefusedSchedule schema schedule client number × (text ≡ schedule_line number)
 
--- the files tell a schema, and a client that is no script for it
+-- the files tell a schema, and a client that is no script for it, whatever the call did
 pub record HasBadScript (names : List (List ℕ)) (sight : Sight) : Type 0 where
   pub schema_name : List ℕ
   pub schedule_name : List ℕ
@@ -77,7 +77,7 @@ pub record HasBadScript (names : List (List ℕ)) (sight : Sight) : Type 0 where
   pub schema_read : IsRead schema_text schema
   pub no_script : (script : Script) → IsScript schema client_text script → ⊥
 
--- the files tell a schema, a script for it, and a schedule that is none for one client
+-- the files tell a schema, a script for it, and a schedule that is none for one client, whatever the call did
 pub record HasBadSchedule (names : List (List ℕ)) (sight : Sight) : Type 0 where
   pub schema_name : List ℕ
   pub schedule_name : List ℕ
