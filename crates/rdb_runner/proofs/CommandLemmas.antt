@@ -60,7 +60,7 @@ unbuilt_is_no_want line ink answer answers wants = answers_without_memory NotBui
 pub words_end : (words : List Word) (command : Command) (sight : Sight) (ink : Ink) (answer : ℕ) → IsCommandLine words command
     → CommandEnds command sight ink answer → (answer ≡ number_of NoMemory → IsBuilt (task_of command)) → WordsEnd words sight ink answer
 words_end words command sight ink answer is ends memory = record {
-  usage = λ no. absurd (no command is);
+  usage = λ bad. absurd (bad command is);
   command = λ other asked. subst (λ (c : Command). CommandEnds c sight ink answer) (one_line words command other is asked) ends;
   either = inr (command, is);
   memory = λ wants. (command, is, memory wants);
@@ -69,10 +69,10 @@ words_end words command sight ink answer is ends memory = record {
 -- words that are no command line end with the usage
 pub no_words_end : (words : List Word) (sight : Sight) (ink : Ink) (answer : ℕ) → IsNoCommandLine words → SeesNothing sight
     → Answers Usage usage_line ink answer → WordsEnd words sight ink answer
-no_words_end words sight ink answer no sees answers = record {
+no_words_end words sight ink answer bad sees answers = record {
   usage = λ still. usage_ends sight ink answer sees answers;
-  command = λ other asked. absurd (no other asked);
-  either = inl no;
+  command = λ other asked. absurd (bad other asked);
+  either = inl bad;
   memory = λ wants. absurd (answers_without_memory Usage usage_line ink answer usage_is_no_want answers wants);
 }
   where

@@ -11,7 +11,7 @@ use Rattle.rdb_runner.specs.Statuses.{number_of}
 use Rattle.rdb_runner.specs.Telling.{Ink, Shows, Tells, MayTell}
 
 -- the status of a number
-status_at : ℕ → Status
+abbrev status_at : ℕ → Status
 status_at n =
     if n == 0 then Done
     else if n == 2 then Usage

@@ -72,7 +72,8 @@ fn end<F: Files, K: Sink>(alloc: Global, schema: &str, files: &mut F, out: &mut 
 }
 
 /// Checks the schema in the file of this name: reads it and writes its canonical text, as one piece. The answer is the number of
-/// a status: done, unreadable, bad schema, cut off or want of memory. The cost grows with the file.
+/// a status: done, unreadable, bad schema, cut off or want of memory. What follows for each is said in `laws`. The cost grows with the
+/// file.
 pub fn check<F: Files, K: Sink>(alloc: Global, schema: &str, files: &mut F, out: &mut K) -> u8
     ensures { CheckEnds schema.now
         (sight_of F.told F.asked F.faults files.old files.new) (ink_of K.written K.faults out.old out.new) result }

@@ -125,8 +125,8 @@ fn end_words<F: Files, K: Sink>(alloc: Global, words: &[String], files: &mut F, 
 }
 
 /// Does what the words of a command line ask for, over these files and this sink, and answers the number of a status. Where several
-/// refusals hold, the first of usage, unreadable, bad schema, bad script, bad schedule and not built is told. It always returns. The
-/// cost grows with the files.
+/// refusals hold, the first of usage, unreadable, bad schema, bad script, bad schedule and not built is told. What follows for each
+/// status is said in `laws`. It always returns. The cost grows with the files.
 pub fn region_main<F: Files, K: Sink, G: Gate + Sync>(
     alloc: Global,
     words: &[String],

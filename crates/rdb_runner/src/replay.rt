@@ -187,7 +187,7 @@ fn end<F: Files, K: Sink>(alloc: Global, job: &Job, files: &mut F, out: &mut K) 
 /// it is for jobs with one client, whose files are of the simplest form. The cost grows with the files and the report.
 ///
 /// The answer is the number of a status: of all but that of words that are no command line. Where several refusals hold, the first
-/// of unreadable, bad schema, bad script, bad schedule and not built is told.
+/// of unreadable, bad schema, bad script, bad schedule and not built is told. What follows for each status is said in `laws`.
 pub fn replay<F: Files, K: Sink>(alloc: Global, job: &Job, files: &mut F, out: &mut K) -> u8
     requires pages { (1 ≤ job.now.pages) × (job.now.pages ≤ 16384) }
     requires one_client { length job.now.clients ≡ 1 }
