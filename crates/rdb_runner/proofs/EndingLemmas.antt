@@ -1,5 +1,5 @@
 -- What follows from how a command ends, whatever it owes.
-use Rattle.std.proofs.Common.{◌≡◌, ℕ, zero, suc, take, lit≤, ◌⊎◌, inl, inr, List, [], ◌++◌, Option, Some, None, refl, sym, ap, ◌∙◌, subst}
+use Rattle.std.proofs.Common.{◌≡◌, ℕ, zero, suc, take, length, ◌≤◌, ◌⊎◌, inl, inr, List, [], ◌++◌, Option, Some, None, refl, sym, ap, ◌∙◌, subst, arith}
 use Rattle.std.specs.Option.{option_map}
 use Rattle.std.proofs.lemmas.List.{append-nil}
 use Rattle.std.specs.Prelude.{◌==◌, if◌then◌else◌}
@@ -61,7 +61,9 @@ added_none (Some all) = ap Some (sym (append-nil all))
 
 -- where no file is asked, the first none of these are
 pub asks_none : (files : List (List ℕ)) (sight : Sight) → sight.asked_then ≡ sight.asked → AsksFirst sight files
-asks_none files sight same = (0, lit≤ tt, same ∙ added_none sight.asked)
+asks_none files sight same =
+    let least : 0 ≤ length files = omega arith in
+    (0, least, same ∙ added_none sight.asked)
 
 take_none : (n : ℕ) → ◌≡◌ {A = List (List ℕ)} (take n []) []
 take_none zero = refl

@@ -1,6 +1,7 @@
-use Rattle.std.proofs.Common.{subst, Ok, Err, refl}
+use Rattle.std.proofs.Common.{◌≡◌, ℕ, List, subst, Ok, Err, refl, rules}
+use Rattle.rdb_runner.specs.declared.status.Status.TheVariants.{Done, NoMemory}
 use Rattle.rdb_runner.specs.Reading.{sight_of}
-use Rattle.rdb_runner.specs.Telling.{ink_of}
+use Rattle.rdb_runner.specs.Telling.{Tells, ink_of}
 use Rattle.rdb_runner.specs.Work.{IsCheckWork}
 use Rattle.rdb_runner.proofs.CheckLemmas.{checked_told, unreadable_told, fault_told}
 use Rattle.rdb_runner.proofs.check.end.Goals as goal
@@ -11,10 +12,11 @@ returns-in-Ok g c =
     let sight = sight_of g.F.Files.told g.F.Files.asked g.F.Files.faults c.args.files.now c.work.new.files in
     let ink = ink_of g.K.Sink.written g.K.Sink.faults c.args.out.now c.tell.new.out in
     let work = subst (IsCheckWork name sight) c.in-Ok.is c.work.ensures.work in
+    let bytes : c.as_bytes.result.now ≡ c.in-Ok.text = search rules in
     record {
       status = c.tell.result;
       number = refl;
-      told = checked_told name sight ink c.tell.result _ work c.tell.ensures;
+      told = checked_told name sight ink c.tell.result c.in-Ok.text work (subst (λ (b : List ℕ). Tells ink Done b c.tell.result) bytes c.tell.ensures);
       asked = c.work.ensures.asked;
     }
 
@@ -43,3 +45,6 @@ returns-in-Err-Refused g c =
       told = fault_told name sight ink c.tell_fault.result c.in-Err-Refused.fault work c.tell_fault.ensures;
       asked = c.work.ensures.asked;
     }
+
+pub returns-in-Err-NoMemory : goal.returns-in-Err-NoMemory
+returns-in-Err-NoMemory g c = record { status = NoMemory; number = refl; told = (refl, refl); asked = c.work.ensures.asked }

@@ -1,7 +1,7 @@
 use Rattle.std.proofs.Common.{◌≡◌, [], ◌∷◌, refl, sym, ap, ◌∙◌, subst, length}
 use Rattle.rdb_runner.specs.declared.status.Status.TheVariants.{NotBuilt, NoMemory}
 use Rattle.rdb_runner.specs.Command.{CommandEnds, IsBuilt, task_of}
-use Rattle.rdb_runner.specs.CommandLine.{replay, texts}
+use Rattle.rdb_runner.specs.CommandLine.{replay, run, audit, job, texts}
 use Rattle.rdb_runner.specs.Reading.{sight_of}
 use Rattle.rdb_runner.specs.Telling.{ink_of}
 use Rattle.rdb_runner.proofs.CommandLemmas.{unbuilt_ends, unbuilt_is_no_want, not_one_client}
@@ -35,19 +35,25 @@ pub returns-in-Check-clause-memory : goal.returns-in-Check-clause-memory
 returns-in-Check-clause-memory g c = rw c.in-Check.is (λ wants. tt)
 
 pub returns-in-Run-clause-ends : goal.returns-in-Run-clause-ends
-returns-in-Run-clause-ends g c = rw c.in-Run.is (unbuilt_ends _ _ _ _ refl (refl, refl) c.answer-in-Run.ensures)
+returns-in-Run-clause-ends g c =
+    let line = c.in-Run in
+    rw line.is (unbuilt_ends (run line.settings line.schema.now (texts line.clients.items)) _ _ _ refl (refl, refl) c.answer-in-Run.ensures)
 
 pub returns-in-Run-clause-memory : goal.returns-in-Run-clause-memory
 returns-in-Run-clause-memory g c = λ wants. absurd (unbuilt_is_no_want _ _ _ c.answer-in-Run.ensures wants)
 
 pub returns-in-Audit-clause-ends : goal.returns-in-Audit-clause-ends
-returns-in-Audit-clause-ends g c = rw c.in-Audit.is (unbuilt_ends _ _ _ _ refl (refl, refl) c.answer-in-Audit.ensures)
+returns-in-Audit-clause-ends g c =
+    let line = c.in-Audit in
+    rw line.is (unbuilt_ends (audit line.schema.now line.report.now) _ _ _ refl (refl, refl) c.answer-in-Audit.ensures)
 
 pub returns-in-Audit-clause-memory : goal.returns-in-Audit-clause-memory
 returns-in-Audit-clause-memory g c = λ wants. absurd (unbuilt_is_no_want _ _ _ c.answer-in-Audit.ensures wants)
 
 pub returns-in-Job-clause-ends : goal.returns-in-Job-clause-ends
-returns-in-Job-clause-ends g c = rw c.in-Job.is (unbuilt_ends _ _ _ _ refl (refl, refl) c.answer-in-Job.ensures)
+returns-in-Job-clause-ends g c =
+    let line = c.in-Job in
+    rw line.is (unbuilt_ends (job line.seed line.threads) _ _ _ refl (refl, refl) c.answer-in-Job.ensures)
 
 pub returns-in-Job-clause-memory : goal.returns-in-Job-clause-memory
 returns-in-Job-clause-memory g c = λ wants. absurd (unbuilt_is_no_want _ _ _ c.answer-in-Job.ensures wants)

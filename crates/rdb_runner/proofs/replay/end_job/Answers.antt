@@ -1,4 +1,5 @@
 use Rattle.std.proofs.Common.{subst, Ok, Err, refl}
+use Rattle.rdb_runner.specs.declared.status.Status.TheVariants.{NoMemory}
 use Rattle.rdb_runner.specs.Parts.{names_of}
 use Rattle.rdb_runner.specs.Reading.{sight_of}
 use Rattle.rdb_runner.specs.Telling.{ink_of}
@@ -83,3 +84,6 @@ returns-in-Err-NotBuilt g c =
       told = other_told names sight ink c.tell_not_built.result c.in-Err-NotBuilt.place c.name_at-name-in-Err-NotBuilt.result.now work c.name_at-name-in-Err-NotBuilt.ensures c.tell_not_built.ensures;
       asked = c.work.ensures.asked;
     }
+
+pub returns-in-Err-NoMemory : goal.returns-in-Err-NoMemory
+returns-in-Err-NoMemory g c = record { status = NoMemory; number = refl; told = (refl, refl); asked = c.work.ensures.asked }
