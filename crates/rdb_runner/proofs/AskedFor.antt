@@ -1,6 +1,6 @@
 -- Words ask for one command, and so for one task and one list of files.
-use Rattle.std.proofs.Common.{◌≡◌, ◌⊎◌, inl, inr, List, [], ◌∷◌, sym, ap, ◌∙◌}
-use Rattle.rdb_runner.specs.Command.{IsNoCommandLine, Task, replays, checks, unbuilt, task_of, AsksFor, AsksToCheck, AsksForFiles}
+use Rattle.std.proofs.Common.{◌≡◌, inl, inr, List, [], ◌∷◌, sym, ap, ◌∙◌}
+use Rattle.rdb_runner.specs.Command.{IsNoCommandLine, replays, checks, unbuilt, task_of, AsksFor, AsksToCheck, AsksForFiles}
 use Rattle.rdb_runner.specs.CommandLine.{Word, Command, IsCommandLine}
 use Rattle.rdb_runner.proofs.CommandLineMeaning.{one_line}
 

@@ -1,5 +1,5 @@
 -- What the work of a check gives is what is told.
-use Rattle.std.proofs.Common.{◌≡◌, ℕ, lit≤, List, [], ◌∷◌, ◌++◌, refl}
+use Rattle.std.proofs.Common.{ℕ, lit≤, List, [], ◌∷◌, ◌++◌, refl}
 use Rattle.std.specs.Prelude.{codes, Result, Ok, Err}
 use Rattle.rdb_ddl.specs.declared.fault.DdlFault.{DdlFault}
 use Rattle.rdb_runner.specs.declared.check.Unchecked.TheVariants as no
@@ -10,7 +10,7 @@ use Rattle.rdb_runner.specs.declared.status.Status.{Status}
 use Rattle.rdb_runner.specs.declared.status.Status.TheVariants.{Done, Unreadable, BadSchema}
 use Rattle.rdb_runner.specs.Ending.{Told}
 use Rattle.rdb_runner.specs.Promise.{CheckOwes}
-use Rattle.rdb_runner.specs.Reading.{Sight, IsReadOf, Asks, AsksFirst}
+use Rattle.rdb_runner.specs.Reading.{Sight, IsReadOf, AsksFirst}
 use Rattle.rdb_runner.specs.SchemaFile.{fault_line}
 use Rattle.rdb_runner.specs.Telling.{Ink, Tells, MayTell}
 use Rattle.rdb_runner.specs.Work.{IsRewritten, IsCheckWork}

@@ -1,5 +1,5 @@
 -- How a command ends is how the words end that ask for it.
-use Rattle.std.proofs.Common.{◌≡◌, ℕ, ◌⊎◌, inl, inr, List, [], ◌∷◌, length, Bor, get_or, refl, sym, ap, ◌∙◌, subst, arith}
+use Rattle.std.proofs.Common.{◌≡◌, ℕ, inl, inr, List, [], ◌∷◌, length, Bor, get_or, refl, sym, ◌∙◌, subst, arith}
 use Rattle.rdb_runner.specs.declared.command_line.Settings.{Settings}
 use Rattle.rdb_runner.specs.declared.status.Status.{Status}
 use Rattle.rdb_runner.specs.declared.status.Status.TheVariants.{Usage, CutOff, NoMemory, NotBuilt}

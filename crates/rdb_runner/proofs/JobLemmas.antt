@@ -1,17 +1,15 @@
 -- What the work of a job gives is what is told.
-use Rattle.std.proofs.Common.{◌≡◌, ℕ, get_or, ◌+◌, List, [], ◌∷◌, ◌++◌, length, take, Some, refl, sym, ap, ◌∙◌, subst, arith}
+use Rattle.std.proofs.Common.{◌≡◌, ℕ, get_or, List, [], ◌∷◌, ◌++◌, length, Some, refl, sym, ap, ◌∙◌, subst, arith}
 use Rattle.std.specs.Prelude.{slice_get, codes, Result, Ok, Err}
 use Rattle.rdb_ddl.specs.declared.fault.DdlFault.{DdlFault}
-use Rattle.rdb_ddl.specs.Read.{IsRefused}
 use Rattle.rdb_runner.specs.declared.halt.Halt.{Halt}
 use Rattle.rdb_runner.specs.declared.halt.Halt.TheVariants as halt
 use Rattle.rdb_runner.specs.declared.status.Status.{Status}
 use Rattle.rdb_runner.specs.declared.status.Status.TheVariants.{Done, Unreadable, BadSchema, BadScript, BadSchedule, NotBuilt}
 use Rattle.rdb_runner.specs.Ending.{Told}
-use Rattle.rdb_runner.specs.Parts.{names_of, HasRefusedScript, HasRefusedSchedule, script_line, schedule_line}
-use Rattle.rdb_runner.specs.PlainPromise.{IsFirstOther}
+use Rattle.rdb_runner.specs.Parts.{names_of, script_line, schedule_line}
 use Rattle.rdb_runner.specs.Promise.{IsDone, ReplayOwes}
-use Rattle.rdb_runner.specs.Reading.{Sight, Asks, AreBytesOf, CannotRead, AllRead}
+use Rattle.rdb_runner.specs.Reading.{Sight, CannotRead, AllRead}
 use Rattle.rdb_runner.specs.SchemaFile.{fault_line}
 use Rattle.rdb_runner.specs.Telling.{Ink, Tells, MayTell}
 use Rattle.rdb_runner.specs.Work.{IsWork, IsJobWork}

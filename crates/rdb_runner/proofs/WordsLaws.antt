@@ -1,5 +1,5 @@
 -- What follows from how words end, status by status.
-use Rattle.std.proofs.Common.{◌≡◌, ℕ, lit<, ◌<◌, ◌⊎◌, inl, inr, List, [], ◌∷◌, refl, sym, ◌∙◌, subst, arith}
+use Rattle.std.proofs.Common.{◌≡◌, ℕ, lit<, ◌<◌, ◌⊎◌, inl, inr, List, [], ◌∷◌, refl, sym, subst, arith}
 use Rattle.rdb_runner.specs.declared.status.Status.{Status}
 use Rattle.rdb_runner.specs.declared.status.Status.TheVariants.{Done, Usage, Unreadable, BadSchema, BadScript, BadSchedule, CutOff, NoMemory, NotBuilt}
 use Rattle.rdb_runner.specs.Command.{IsNoCommandLine, usage_line, Task, replays, checks, unbuilt, task_of, SeesNothing, UsageOwes, UnbuiltOwes, CommandOwes, TaskEnds, WordsEnd, IsCutShort, AsksFor, AsksToCheck, AsksForFiles, AsksForOther, AsksInOrder}
@@ -7,7 +7,7 @@ use Rattle.rdb_runner.specs.CommandLine.{Word, Command, IsCommandLine}
 use Rattle.rdb_runner.specs.Ending.{Told, Ends}
 use Rattle.rdb_runner.specs.Parts.{IsBadScript, IsBadSchedule, HasBadScript, HasBadSchedule}
 use Rattle.rdb_runner.specs.PlainPromise.{IsNotBuilt, ArePlain}
-use Rattle.rdb_runner.specs.Promise.{IsDone, ReplayOwes, ReplayEnds, CheckOwes, CheckEnds}
+use Rattle.rdb_runner.specs.Promise.{IsDone, ReplayEnds, CheckEnds}
 use Rattle.rdb_runner.specs.Reading.{Sight, IsUnreadable, HasTooLong}
 use Rattle.rdb_runner.specs.SchemaFile.{IsChecked, IsBadSchema, HasBadSchema}
 use Rattle.rdb_runner.specs.Statuses.{number_of, IsOneOf}

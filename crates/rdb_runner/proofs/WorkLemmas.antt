@@ -1,5 +1,5 @@
 -- What the work on three texts gives, part by part.
-use Rattle.std.proofs.Common.{◌≡◌, ℕ, List, refl}
+use Rattle.std.proofs.Common.{◌≡◌, ℕ, List}
 use Rattle.std.specs.Prelude.{Ok, Err}
 use Rattle.std.specs.List.{concat}
 use Rattle.rdb_schema.specs.declared.schema.Schema.{Schema}

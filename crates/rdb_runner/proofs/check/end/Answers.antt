@@ -1,4 +1,4 @@
-use Rattle.std.proofs.Common.{◌≡◌, ℕ, List, subst, Ok, Err, refl, rules}
+use Rattle.std.proofs.Common.{◌≡◌, ℕ, List, subst, Err, refl, rules}
 use Rattle.rdb_runner.specs.declared.status.Status.TheVariants.{Done, NoMemory}
 use Rattle.rdb_runner.specs.Reading.{sight_of}
 use Rattle.rdb_runner.specs.Telling.{Tells, ink_of}

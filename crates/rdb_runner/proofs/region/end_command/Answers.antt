@@ -1,5 +1,4 @@
 use Rattle.std.proofs.Common.{◌≡◌, [], ◌∷◌, refl, sym, ap, ◌∙◌, subst, length}
-use Rattle.rdb_runner.specs.declared.status.Status.TheVariants.{NotBuilt, NoMemory}
 use Rattle.rdb_runner.specs.Command.{CommandEnds, IsBuilt, task_of}
 use Rattle.rdb_runner.specs.CommandLine.{replay, run, audit, job, texts}
 use Rattle.rdb_runner.specs.Reading.{sight_of}

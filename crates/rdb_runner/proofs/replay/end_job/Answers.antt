@@ -1,4 +1,4 @@
-use Rattle.std.proofs.Common.{subst, Ok, Err, refl}
+use Rattle.std.proofs.Common.{subst, Err, refl}
 use Rattle.rdb_runner.specs.declared.status.Status.TheVariants.{NoMemory}
 use Rattle.rdb_runner.specs.Parts.{names_of}
 use Rattle.rdb_runner.specs.Reading.{sight_of}
