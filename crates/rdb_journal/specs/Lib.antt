@@ -4,3 +4,7 @@ pub mod Replies
 pub mod Lines
 pub mod Endings
 pub mod Report
+pub mod Printed
+pub mod Heads
+pub mod Grammar
+pub mod Verdicts

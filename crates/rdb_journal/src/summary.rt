@@ -3,11 +3,13 @@
 ghost use Rattle.std.specs.Prelude.{◌≡◌, ◌++◌, IfOk, All, count_by, flat_map};
 ghost use Rattle.rdb_journal.specs.Lines.{entry_lines, NamesExist};
 ghost use Rattle.rdb_journal.specs.Endings.{NoteNamesExist};
-ghost use Rattle.rdb_journal.specs.Report.{is_commit, is_read, is_abort, is_handled, totals_line, report_lines};
+ghost use Rattle.rdb_journal.specs.Report.{is_commit, is_read, is_abort, is_handled, is_closed, totals_line, report_lines};
+ghost use Rattle.rdb_journal.specs.Verdicts.{counts_of};
 
 use crate::clients::append_clients;
 use crate::endings::{Ends, NotesOfClients};
 use crate::entries::{Lines, append_entry};
+use crate::verdict::Counts;
 use rdb_base::journal::{Entries, Entry};
 use rdb_base::list::{List, NoMemory};
 use rdb_base::text::Text;
@@ -84,6 +86,37 @@ fn handled(journal: &Entries) -> usize
         count += is_handled(entry) as usize;
     }
     count
+}
+
+#[tactic(auto, unfolding(crate::specs::Report::is_closed))]
+fn is_closed(entry: &Entry) -> bool
+    ensures { result ≡ is_closed entry.now }
+{
+    matches!(entry, Entry::Closed { .. })
+}
+
+/// How many clients were closed.
+fn closed(journal: &Entries) -> usize
+    ensures { result ≡ count_by is_closed journal.now }
+{
+    let mut count = 0;
+    for entry in journal.as_slice() {
+        count += is_closed(entry) as usize;
+    }
+    count
+}
+
+/// How many entries of each kind there are. It takes no memory, and the cost grows with the journal's length.
+pub fn counts(journal: &Entries) -> Counts
+    ensures { result ≡ counts_of journal.now }
+{
+    Counts {
+        commits: commits(journal) as u64,
+        reads: reads(journal) as u64,
+        aborts: aborts(journal) as u64,
+        handled: handled(journal) as u64,
+        closed: closed(journal) as u64,
+    }
 }
 
 /// The line of the totals: how many entries of each kind there are, but for the closed ones. The cost grows with the journal's length.
