@@ -4,7 +4,3 @@ pub mod Replies
 pub mod Lines
 pub mod Endings
 pub mod Report
-pub mod Printed
-pub mod Heads
-pub mod Grammar
-pub mod Verdicts

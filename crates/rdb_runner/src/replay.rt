@@ -58,7 +58,7 @@ fn lines_of(alloc: Global, schema: &Schema, lines: &ScriptLines) -> Result<Lines
     ends.push(End::Done)?;
     let mut notes = List::new(alloc);
     notes.push(List::new(alloc))?;
-    report(alloc, schema, &journal, &ends, &notes)
+    report(alloc, schema, journal.as_slice(), &ends, &notes)
 }
 
 /// The lines of the report of a schema that was read and these texts; else the first fault of the client, then of the
