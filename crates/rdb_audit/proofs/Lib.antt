@@ -5,3 +5,8 @@ pub mod FrontLemmas
 pub mod NameLemmas
 pub mod HeadLemmas
 pub mod ValueLemmas
+pub mod OperationLemmas
+pub mod StepLemmas
+pub mod TextForms
+pub mod IdLemmas
+pub mod ReplyLemmas

@@ -24,6 +24,7 @@ found_at {X = X} p xs place e = by_test (ltb (position_or_len p xs) (length xs))
     pick : position_or_len p xs < length xs → place ≡ position_or_len p xs → ((x : X) × (position_or_len p xs < length xs) × (slice_get xs (position_or_len p xs) ≡ Some x) × (get_or xs (position_or_len p xs) x ≡ x)) ⊎ ((length xs ≤ position_or_len p xs) × (slice_get xs (position_or_len p xs) ≡ None)) → (x : X) × (slice_get xs place ≡ Some x) × (p x ≡ true)
     pick lt same (inl h) = (h.0, ap (slice_get xs) same ∙ h.2, ap p (sym h.3) ∙ passes_at_first p xs h.0 lt)
     pick lt same (inr h) = absurd (let far = h.0 in omega arith)
+
     by_test : (b : Bool) → ltb (position_or_len p xs) (length xs) ≡ b → (x : X) × (slice_get xs place ≡ Some x) × (p x ≡ true)
     by_test true t =
         let there : Some place ≡ Some (position_or_len p xs) = sym e ∙ ap (λ b. cond b (Some (position_or_len p xs)) None) t in

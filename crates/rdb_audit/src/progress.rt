@@ -7,11 +7,11 @@ ghost use Rattle.rdb_audit.specs.declared.progress.Section.TheVariants as sectio
 ghost use Rattle.rdb_audit.specs.Grammar.{start, entries, open_kind, with_step, after, CountsOn};
 ghost use Rattle.rdb_audit.specs.Printed.{kind_of};
 
-use rdb_journal::endings::{End, Note};
 use rdb_base::identity::Kind;
 use rdb_base::journal::{Entries, Entry};
 use rdb_base::list::{List, NoMemory};
 use rdb_base::operation::{Op, Reply};
+use rdb_journal::endings::{End, Note};
 use std::alloc::Global;
 
 /// The part of a report in which a line stands.

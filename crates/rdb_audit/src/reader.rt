@@ -5,6 +5,7 @@ ghost use Rattle.std.specs.Bool.{OnTrue, OnFalse};
 ghost use Rattle.rdb_base.specs.declared.journal.Entry.{Entry as Ended};
 ghost use Rattle.rdb_model.specs.FirstFault.{FitsEntry};
 ghost use Rattle.rdb_schema.specs.Schemas.{IsSchema};
+ghost use Rattle.rdb_journal.specs.Lines.{NamesExist};
 ghost use Rattle.rdb_journal.specs.Report.{totals_line};
 ghost use Rattle.rdb_audit.specs.declared.progress.Section.TheVariants as section;
 ghost use Rattle.rdb_audit.specs.declared.progress.ReportLine.TheVariants as says;
@@ -14,9 +15,9 @@ ghost use Rattle.rdb_audit.specs.Verdicts.{IsReadFault, IsJournalRead};
 
 use crate::line_reader::report_line;
 use crate::progress::{Progress, Section};
-use rdb_journal::summary::totals;
 use rdb_base::journal::{Entries, Entry};
 use rdb_base::list::NoMemory;
+use rdb_journal::summary::totals;
 use rdb_literals::front::is_word;
 use rdb_schema::schema::Schema;
 use std::alloc::Global;
@@ -145,6 +146,7 @@ pub fn read(alloc: Global, schema: &Schema, report: &[u8]) -> Result<Entries, Re
     ensures read { IfOk result (IsReport schema.now report.now) }
     ensures only { (journal : Listed Ended) → IsReport schema.now report.now journal → IsJournalRead result journal }
     ensures fits { IfOk result (All (FitsEntry schema.now)) }
+    ensures names { IfOk result (All (NamesExist schema.now)) }
     ensures fault { IfErr result (IsReadFault schema.now report.now) }
 {
     let mut progress = Progress::new(alloc);

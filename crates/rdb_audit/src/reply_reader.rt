@@ -66,7 +66,12 @@ fn is_short(schema: &Schema, class: u32, row: &Row) -> bool
 }
 
 /// The row of a class that is all of the text but the line feed.
-fn last_row(alloc: Global, schema: &Schema, class: u32, text: &[u8]) -> Result<Option<Row>, NoMemory>
+fn last_row(
+    alloc: Global,
+    schema: &Schema,
+    class: u32,
+    text: &[u8],
+) -> Result<Option<Row>, NoMemory>
     ensures found { IfOk result (λ o. IfSome o (IsPrintableRow schema.now class)) }
     ensures exact { (row : Listed Value) → IsPrintableRow schema.now class row → text.now ≡ row_text row ++ codes "\n" → IfOk result (λ o. o ≡ Some row) }
 {
@@ -131,6 +136,7 @@ fn put_reply(schema: &Schema, class: u32, text: &[u8]) -> Option<Reply>
 
 /// The id behind a space in front, and what stands behind it.
 fn next_id(text: &[u8]) -> Option<(u64, &[u8])>
+    ensures found { IfSome result (λ r. text.now ≡ codes " " ++ (decimal r.0 ++ r.1.now)) }
     ensures less { IfSome result (λ r. length r.1.now < length text.now) }
     ensures exact { (id : ℕ) (rest : Listed ℕ) → IsWide id → BeginsNoDigit rest → text.now ≡ codes " " ++ (decimal id ++ rest)
         → IsSomeAnd result (λ r. (r.0 ≡ id) × (r.1.now ≡ rest)) }

@@ -9,13 +9,13 @@ ghost use Rattle.rdb_base.specs.declared.operation.Reply.{Reply as Answer};
 ghost use Rattle.rdb_journal.specs.Lines.{operation_line};
 ghost use Rattle.rdb_audit.specs.Printed.{IsPrintableStep, IsPrintableOperation, IsPrintableReply, with_made};
 
-use rdb_journal::entries::operation_line;
 use crate::operation_reader::operation_at;
 use crate::reply_reader::reply;
 use rdb_base::identity::Kind;
 use rdb_base::list::NoMemory;
 use rdb_base::operation::{Op, Reply};
-use rdb_literals::front::after;
+use rdb_journal::entries::operation_line;
+use rdb_literals::front::{after, is_word};
 use rdb_model::fitting::fits;
 use rdb_schema::schema::Schema;
 use std::alloc::Global;
@@ -72,7 +72,7 @@ pub fn step(alloc: Global, schema: &Schema, may: Kind, line: &[u8]) -> Result<St
         return Ok(None);
     }
     let written = operation_line(alloc, schema, &step)?;
-    if written.as_str().as_bytes() != line {
+    if !is_word(line, written.as_str().as_bytes()) {
         return Ok(None);
     }
     Ok(Some(step))

@@ -13,8 +13,8 @@ ghost use Rattle.rdb_literals.specs.SpelledValues.{HasCorners};
 use rdb_base::list::NoMemory;
 use rdb_base::text::Text;
 use rdb_base::value::{Rect, Row};
-use rdb_literals::spelled::{numbers, printed_texts_are_quoted};
 use rdb_literals::spelled::typed::{self, printed_keys_are_spelled, printed_rows_are_spelled};
+use rdb_literals::spelled::{numbers, printed_texts_are_quoted};
 use rdb_schema::schema::Schema;
 use std::alloc::Global;
 

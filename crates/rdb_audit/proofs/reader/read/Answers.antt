@@ -1,7 +1,7 @@
 use Rattle.std.proofs.Common.{◌≡◌, true, false, refl, sym, ap, ◌∙◌, subst, arith}
 use Rattle.rdb_audit.specs.declared.progress.Progress.{Progress}
 use Rattle.rdb_audit.specs.Grammar.{lines, Runs, IsReport}
-use Rattle.rdb_audit.proofs.Fitting.{report_fits}
+use Rattle.rdb_audit.proofs.Fitting.{report_fits, report_names}
 use Rattle.rdb_audit.proofs.Running.{HasRun, begins, goes_on, runs_on, bad_at, unended, is_report, only_report, no_report, no_unended, took_line, only_took, is_over, not_over}
 use Rattle.rdb_audit.proofs.reader.read.Goals as goal
 
@@ -43,3 +43,6 @@ returns-clause-only c = λ journal s.
 
 pub returns-clause-fits : goal.returns-clause-fits
 returns-clause-fits c = report_fits c.args.schema.now c.args.report.now c.close.new.self.journal c.requires.short (returns-clause-read c)
+
+pub returns-clause-names : goal.returns-clause-names
+returns-clause-names c = report_names c.args.schema.now c.args.report.now c.close.new.self.journal (returns-clause-read c)
