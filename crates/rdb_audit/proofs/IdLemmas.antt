@@ -1,10 +1,11 @@
 -- Ids with a space between them, read one after another.
-use Rattle.std.proofs.Common.{◌≡◌, ℕ, zero, suc, ◌+◌, ◌<◌, ◌^◌, List, [], ◌∷◌, ◌++◌, length, get_or, codes, decimal, flat_map, All, refl, sym, ap, ◌∙◌, subst, arith, append_assoc, length-append}
+use Rattle.std.proofs.Common.{◌≡◌, ◌≢◌, ℕ, zero, suc, ◌+◌, ◌<◌, ◌^◌, List, [], ◌∷◌, ◌++◌, length, get_or, codes, decimal, flat_map, All, refl, sym, ap, ◌∙◌, subst, arith, append_assoc, length-append}
 use Rattle.std.specs.Char.{digit_value}
 use Rattle.std.specs.Str.Parse.{IsNumeral}
 use Rattle.std.proofs.lemmas.Fmt.{decimal_is_IsNumeral}
 use Rattle.std.proofs.lemmas.List.{append-nil}
 use Rattle.rdb_literals.specs.Spelling.{BeginsNoDigit}
+use Rattle.rdb_journal.specs.Replies.{ids_text}
 use Rattle.rdb_audit.specs.Printed.{IsWide}
 
 -- ids, each behind a space
@@ -57,3 +58,20 @@ no_number n more rest wide e = by_digits (decimal n) (decimal_is_IsNumeral n wid
         let first : 110 ≡ d = ap (λ (t : List ℕ). get_or t 0 0) f in
         let digit : digit_value 110 < 10 = subst (λ (c : ℕ). digit_value c < 10) (sym first) numeral.1.0 in
         omega arith
+
+-- ---- all ids of a reply
+
+pub ids_none : (text all : List ℕ) → All IsWide all → text ≡ codes "none\n" → text ≡ ids_text all ++ codes "\n" → [] ≡ all
+ids_none text [] wide none e = refl
+ids_none text (id ∷ ids) wide none e = absurd (no_number id (codes "one\n") (spaced ids ++ codes "\n") (wide 0 0 (omega arith)) (sym none ∙ e ∙ append_assoc (decimal id) (spaced ids) (codes "\n")))
+
+pub ids_some : (text all : List ℕ) → All IsWide all → (text ≢ codes "none\n") → text ≡ ids_text all ++ codes "\n" → ((n : ℕ) (r : List ℕ) → IsWide n → BeginsNoDigit r → text ≡ decimal n ++ r → ⊥) → ⊥
+ids_some text [] wide some e none = some e
+ids_some text (id ∷ ids) wide some e none = none id (spaced ids ++ codes "\n") (wide 0 0 (omega arith)) (no_digit ids) (e ∙ append_assoc (decimal id) (spaced ids) (codes "\n"))
+
+pub ids_are : (text : List ℕ) (first : ℕ) (rest all : List ℕ) → All IsWide all → (text ≢ codes "none\n") → text ≡ ids_text all ++ codes "\n" → ((n : ℕ) (r : List ℕ) → IsWide n → BeginsNoDigit r → text ≡ decimal n ++ r → (first ≡ n) × (rest ≡ r))
+    → (P : List ℕ → Type 0) → ((others : List ℕ) → All IsWide others → rest ≡ spaced others ++ codes "\n" → P (first ∷ others)) → P all
+ids_are text first rest [] wide some e exact P is = absurd (some e)
+ids_are text first rest (id ∷ ids) wide some e exact P is =
+    let same = exact id (spaced ids ++ codes "\n") (wide 0 0 (omega arith)) (no_digit ids) (e ∙ append_assoc (decimal id) (spaced ids) (codes "\n")) in
+    subst (λ (n : ℕ). P (n ∷ ids)) same.0 (is ids (λ k d l. wide (suc k) d (omega arith)) same.1)

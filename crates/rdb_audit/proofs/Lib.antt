@@ -10,3 +10,5 @@ pub mod StepLemmas
 pub mod TextForms
 pub mod IdLemmas
 pub mod ReplyLemmas
+pub mod LineLemmas
+pub mod LastLine

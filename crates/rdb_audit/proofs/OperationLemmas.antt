@@ -191,3 +191,27 @@ text_held schema class index words way f = leb-true (length words) 255 (and_part
 pub either : (P : Bool → Type 0) (b : Bool) → P true → P false → P b
 either P true yes_ no_ = yes_
 either P false yes_ no_ = no_
+
+-- every operation begins with one of these words
+pub no_operation : (schema : Schema) (asked : Op) (text rest : List ℕ) → text ≡ operation_text schema asked ++ rest
+    → ((r : List ℕ) → text ≡ codes "new " ++ r → ⊥)
+    → ((r : List ℕ) → text ≡ codes "get " ++ r → ⊥)
+    → ((r : List ℕ) → text ≡ codes "put " ++ r → ⊥)
+    → ((r : List ℕ) → text ≡ codes "del " ++ r → ⊥)
+    → ((r : List ℕ) → text ≡ codes "find " ++ r → ⊥)
+    → ((r : List ℕ) → text ≡ codes "seek " ++ r → ⊥)
+    → ((r : List ℕ) → text ≡ codes "area " ++ r → ⊥)
+    → ((r : List ℕ) → text ≡ codes "prefix " ++ r → ⊥)
+    → ((r : List ℕ) → text ≡ codes "count " ++ r → ⊥)
+    → ⊥
+no_operation schema (op.New class row id) text rest e new_ get_ put_ del_ find_ seek_ area_ prefix_ count_ = new_ (class_name schema class ++ (codes " " ++ (row_text row ++ rest))) (e ∙ new_text schema class id row rest)
+no_operation schema (op.Get class id) text rest e new_ get_ put_ del_ find_ seek_ area_ prefix_ count_ = get_ (class_name schema class ++ (codes " " ++ (decimal id ++ rest))) (e ∙ get_text schema class id rest)
+no_operation schema (op.Put class id row) text rest e new_ get_ put_ del_ find_ seek_ area_ prefix_ count_ = put_ (class_name schema class ++ (codes " " ++ (decimal id ++ (codes " " ++ (row_text row ++ rest))))) (e ∙ put_text schema class id row rest)
+no_operation schema (op.Del class id) text rest e new_ get_ put_ del_ find_ seek_ area_ prefix_ count_ = del_ (class_name schema class ++ (codes " " ++ (decimal id ++ rest))) (e ∙ del_text schema class id rest)
+no_operation schema (op.Find class index key) text rest e new_ get_ put_ del_ find_ seek_ area_ prefix_ count_ = find_ (index_path schema class index ++ (codes " " ++ (row_text key ++ rest))) (e ∙ find_text schema class index key rest)
+no_operation schema (op.Seek class index spot true) text rest e new_ get_ put_ del_ find_ seek_ area_ prefix_ count_ = seek_ (index_path schema class index ++ (codes " up " ++ (place_text spot ++ rest))) (e ∙ up_text schema class index spot rest)
+no_operation schema (op.Seek class index spot false) text rest e new_ get_ put_ del_ find_ seek_ area_ prefix_ count_ = seek_ (index_path schema class index ++ (codes " down " ++ (place_text spot ++ rest))) (e ∙ down_text schema class index spot rest)
+no_operation schema (op.Area class index rect true) text rest e new_ get_ put_ del_ find_ seek_ area_ prefix_ count_ = area_ (index_path schema class index ++ (codes " inside " ++ (rect_text rect ++ rest))) (e ∙ inside_text schema class index rect rest)
+no_operation schema (op.Area class index rect false) text rest e new_ get_ put_ del_ find_ seek_ area_ prefix_ count_ = area_ (index_path schema class index ++ (codes " overlaps " ++ (rect_text rect ++ rest))) (e ∙ overlaps_text schema class index rect rest)
+no_operation schema (op.Prefix class index words way) text rest e new_ get_ put_ del_ find_ seek_ area_ prefix_ count_ = prefix_ (index_path schema class index ++ (codes " " ++ (how_text way ++ (codes " " ++ (quoted words ++ rest))))) (e ∙ prefix_text schema class index words way rest)
+no_operation schema (op.Count class) text rest e new_ get_ put_ del_ find_ seek_ area_ prefix_ count_ = count_ (class_name schema class ++ rest) (e ∙ count_text schema class rest)

@@ -150,3 +150,15 @@ count_told schema class text Is count_ (reply.Ids ids) h e = absurd h
 count_told schema class text Is count_ (reply.At key at) h e = absurd h
 count_told schema class text Is count_ reply.End h e = absurd h
 count_told schema class text Is count_ (reply.Count count) h e = count_ count h e
+
+-- ids are a reply of every operation that may be told them
+pub ids_found : {E : Type 0} (schema : Schema) (asked : Op) (r : Result (Option Reply) E) → ((ids : List ℕ) → All IsWide ids → IsPrintableReply schema (with_made asked (reply.Ids ids)) (reply.Ids ids))
+    → IfOk r (λ o. IfSome o (λ told. (all : List ℕ) × All IsWide all × (told ≡ reply.Ids all))) → IfOk r (λ o. IfSome o (λ told. IsPrintableReply schema (with_made asked told) told))
+ids_found schema asked (Ok None) is h = tt
+ids_found schema asked (Ok (Some told)) is h = subst (λ (t : Reply). IsPrintableReply schema (with_made asked t) t) (sym h.2) (is h.0 h.1)
+ids_found schema asked (Err f) is h = tt
+
+pub at_found : (schema : Schema) (class number : ℕ) (from : Place) (up : Bool) (key : List Value) (o : Option Reply) → IsTrue (values_hold schema (key_fields schema class number) key) → IsProperRow key
+    → IfSome o (λ told. (id : ℕ) × IsWide id × (told ≡ reply.At key id)) → IfSome o (IsPrintableReply schema (op.Seek class number from up))
+at_found schema class number from up key None held proper h = tt
+at_found schema class number from up key (Some told) held proper h = subst (IsPrintableReply schema (op.Seek class number from up)) (sym h.2) (record { fits = held; proper = proper }, h.1)

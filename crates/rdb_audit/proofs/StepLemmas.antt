@@ -1,5 +1,5 @@
 -- Steps: an operation and its reply, the id that was made in either.
-use Rattle.std.proofs.Common.{◌≡◌, ℕ, Bool, true, false, List, ◌++◌, codes, IsTrue, refl, sym, ap, append_assoc}
+use Rattle.std.proofs.Common.{◌≡◌, ℕ, Bool, true, false, List, ◌++◌, codes, Option, Some, IsTrue, refl, sym, ap, ◌∙◌, subst, append_assoc}
 use Rattle.std.proofs.lemmas.Bool.{false≢true}
 use Rattle.rdb_base.specs.declared.identity.Kind.{Kind}
 use Rattle.rdb_base.specs.declared.identity.Kind.TheVariants as kind
@@ -125,3 +125,10 @@ fits_writing schema (op.Count class) kind.ReadOnly h = h
 pub line_text : (schema : Schema) (asked : Op) (told : Reply)
     → operation_line schema (asked, told) ≡ codes "  " ++ (operation_text schema asked ++ (codes " -> " ++ (reply_text schema asked told ++ codes "\n")))
 line_text schema asked told = simp append_assoc
+
+-- the reply of an operation that was read without the id that it made
+pub reply_made : (schema : Schema) (bare asked : Op) (told : Reply) (text : List ℕ) (o : Option Reply) → bare ≡ without_made asked → IsPrintableReply schema asked told → text ≡ reply_text schema asked told ++ codes "\n"
+    → (IsPrintableReply schema (with_made bare told) told → text ≡ reply_text schema bare told ++ codes "\n" → o ≡ Some told) → o ≡ Some told
+reply_made schema bare asked told text o is printable e exact =
+    exact (subst (λ (a : Op). IsPrintableReply schema a told) (sym (ap (λ (b : Op). with_made b told) is ∙ made_again schema asked told printable)) printable)
+    (e ∙ ap (λ (t : List ℕ). t ++ codes "\n") (sym (ap (λ (b : Op). reply_text schema b told) is ∙ bare_reply schema asked told)))

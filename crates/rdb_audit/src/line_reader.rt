@@ -52,16 +52,16 @@ fn step_line(alloc: Global, schema: &Schema, progress: &Progress, line: &[u8]) -
     let Some(kind) = progress.open_kind() else {
         return Ok(None);
     };
-    match step(alloc, schema, kind, line)? {
-        Some((op, reply)) => Ok(Some(ReportLine::Step(op, reply))),
-        None => Ok(None),
-    }
+    let Some((op, reply)) = step(alloc, schema, kind, line)? else {
+        return Ok(None);
+    };
+    Ok(Some(ReportLine::Step(op, reply)))
 }
 
 /// What a watch or a poll was told.
 fn told_line(schema: &Schema, line: &[u8]) -> Option<ReportLine>
     requires is_schema { IsSchema schema.now }
-    ensures found { IfSome result (λ says. (n : Told) × (says ≡ says.Note n) × (line.now ≡ note_line schema.now n) × IsPrintableNote schema.now n) }
+    ensures found { IfSome result (λ said. (n : Told) × (said ≡ says.Note n) × (line.now ≡ note_line schema.now n) × IsPrintableNote schema.now n) }
     ensures exact { (n : Told) → line.now ≡ note_line schema.now n → IsPrintableNote schema.now n → result ≡ Some (says.Note n) }
 {
     let note = note(schema, line)?;

@@ -26,6 +26,7 @@ ghost use Rattle.rdb_audit.specs.Printed.{IsWide, HasClassName, HasIndexPath, Is
 use crate::fronts::{class_at, index_path_at, number_at};
 use crate::values::{Found, key_at, rect_at, row_at, text_at};
 use rdb_base::operation::{How, Op, Place};
+use rdb_base::value::Row;
 use rdb_literals::front::after;
 use rdb_schema::schema::Schema;
 use std::alloc::Global;
@@ -85,10 +86,10 @@ fn new_at<'a>(alloc: Global, schema: &Schema, text: &'a [u8]) -> Found<'a, Op>
     let Some((class, values)) = class_then(schema, text) else {
         return Ok(None);
     };
-    match row_at(alloc, schema, class, values)? {
-        Some((row, rest)) => Ok(Some((Op::New { class, row, id: 0 }, rest))),
-        None => Ok(None),
-    }
+    let Some((row, rest)) = row_at(alloc, schema, class, values)? else {
+        return Ok(None);
+    };
+    Ok(Some((Op::New { class, row, id: 0 }, rest)))
 }
 
 fn get_at<'a>(schema: &Schema, text: &'a [u8]) -> Option<(Op, &'a [u8])>
@@ -111,10 +112,10 @@ fn put_at<'a>(alloc: Global, schema: &Schema, text: &'a [u8]) -> Found<'a, Op>
     let Some((class, id, values)) = object_then(schema, text) else {
         return Ok(None);
     };
-    match row_at(alloc, schema, class, values)? {
-        Some((row, rest)) => Ok(Some((Op::Put { class, id, row }, rest))),
-        None => Ok(None),
-    }
+    let Some((row, rest)) = row_at(alloc, schema, class, values)? else {
+        return Ok(None);
+    };
+    Ok(Some((Op::Put { class, id, row }, rest)))
 }
 
 fn del_at<'a>(schema: &Schema, text: &'a [u8]) -> Option<(Op, &'a [u8])>
@@ -137,10 +138,10 @@ fn find_at<'a>(alloc: Global, schema: &Schema, text: &'a [u8]) -> Found<'a, Op>
     let Some((class, index, values)) = path_then(schema, text) else {
         return Ok(None);
     };
-    match key_at(alloc, schema, class, index, values)? {
-        Some((key, rest)) => Ok(Some((Op::Find { class, index, key }, rest))),
-        None => Ok(None),
-    }
+    let Some((key, rest)) = key_at(alloc, schema, class, index, values)? else {
+        return Ok(None);
+    };
+    Ok(Some((Op::Find { class, index, key }, rest)))
 }
 
 /// The direction of a `seek`: whether it goes up.
@@ -153,6 +154,16 @@ fn direction_at(text: &[u8]) -> Option<(bool, &[u8])>
     }
     let rest = after(text, b"down ")?;
     Some((false, rest))
+}
+
+/// The place at a key and the id behind a space in front, and what stands behind it.
+fn place_behind(key: Row, text: &[u8]) -> Option<(Place, &[u8])>
+    ensures found { IsProperRow key → IfSome result (λ r. IsPrintablePlace r.0) }
+    ensures exact { (id : ℕ) (rest : List ℕ) → IsWide id → BeginsNoDigit rest → text.now ≡ codes " " ++ (decimal id ++ rest)
+        → IsSomeAnd result (λ r. (r.0 ≡ place.At key id) × (r.1.now ≡ rest)) }
+{
+    let (id, rest) = number_at(after(text, b" ")?)?;
+    Some((Place::At { key, id }, rest))
 }
 
 fn key_place_at<'a>(
@@ -170,18 +181,7 @@ fn key_place_at<'a>(
     let Some((key, rest)) = key_at(alloc, schema, class, index, text)? else {
         return Ok(None);
     };
-    match number_behind(rest) {
-        Some((id, rest)) => Ok(Some((Place::At { key, id }, rest))),
-        None => Ok(None),
-    }
-}
-
-/// The number behind a space in front, and what stands behind it.
-fn number_behind(text: &[u8]) -> Option<(u64, &[u8])>
-    ensures exact { (id : ℕ) (rest : List ℕ) → IsWide id → BeginsNoDigit rest → text.now ≡ codes " " ++ (decimal id ++ rest)
-        → IsSomeAnd result (λ r. (r.0 ≡ id) × (r.1.now ≡ rest)) }
-{
-    number_at(after(text, b" ")?)
+    Ok(place_behind(key, rest))
 }
 
 fn place_at<'a>(
@@ -233,18 +233,16 @@ fn seek_at<'a>(alloc: Global, schema: &Schema, text: &'a [u8]) -> Found<'a, Op>
     let Some((class, index, up, behind)) = course_at(schema, text) else {
         return Ok(None);
     };
-    match place_at(alloc, schema, class, index, behind)? {
-        Some((place, rest)) => {
-            let op = Op::Seek {
-                class,
-                index,
-                place,
-                up,
-            };
-            Ok(Some((op, rest)))
-        }
-        None => Ok(None),
-    }
+    let Some((place, rest)) = place_at(alloc, schema, class, index, behind)? else {
+        return Ok(None);
+    };
+    let op = Op::Seek {
+        class,
+        index,
+        place,
+        up,
+    };
+    Ok(Some((op, rest)))
 }
 
 /// Whether an `area` looks for what lies inside.
@@ -316,18 +314,16 @@ fn prefix_at<'a>(alloc: Global, schema: &Schema, text: &'a [u8]) -> Found<'a, Op
     let Some((class, index, how, behind)) = way_at(schema, text) else {
         return Ok(None);
     };
-    match text_at(alloc, behind)? {
-        Some((text, rest)) => {
-            let op = Op::Prefix {
-                class,
-                index,
-                text,
-                how,
-            };
-            Ok(Some((op, rest)))
-        }
-        None => Ok(None),
-    }
+    let Some((words, rest)) = text_at(alloc, behind)? else {
+        return Ok(None);
+    };
+    let op = Op::Prefix {
+        class,
+        index,
+        text: words,
+        how,
+    };
+    Ok(Some((op, rest)))
 }
 
 fn count_at<'a>(schema: &Schema, text: &'a [u8]) -> Option<(Op, &'a [u8])>

@@ -96,10 +96,10 @@ fn get_reply(alloc: Global, schema: &Schema, class: u32, text: &[u8]) -> Told
     if is_word(text, b"none\n") {
         return Ok(Some(Reply::NotFound));
     }
-    match last_row(alloc, schema, class, text)? {
-        Some(row) => Ok(Some(Reply::Row(row))),
-        None => Ok(None),
-    }
+    let Some(row) = last_row(alloc, schema, class, text)? else {
+        return Ok(None);
+    };
+    Ok(Some(Reply::Row(row)))
 }
 
 fn del_reply(text: &[u8]) -> Option<Reply>
@@ -180,17 +180,19 @@ fn ids_reply(alloc: Global, text: &[u8]) -> Told
     ensures found { IfOk result (λ o. IfSome o (λ told. (all : Listed ℕ) × All IsWide all × (told ≡ reply.Ids all))) }
     ensures exact { (all : Listed ℕ) → All IsWide all → text.now ≡ ids_text all ++ codes "\n" → IfOk result (λ o. o ≡ Some (reply.Ids all)) }
 {
-    match ids(alloc, text)? {
-        Some(ids) => Ok(Some(Reply::Ids(ids))),
-        None => Ok(None),
-    }
+    let Some(ids) = ids(alloc, text)? else {
+        return Ok(None);
+    };
+    Ok(Some(Reply::Ids(ids)))
 }
 
-/// The id behind a space that is all of the text but the line feed.
-fn last_id(text: &[u8]) -> Option<u64>
-    ensures exact { (id : ℕ) → IsWide id → text.now ≡ codes " " ++ (decimal id ++ codes "\n") → result ≡ Some id }
+/// The reply of a key and of the id behind a space that is all of the text but the line feed.
+fn at_reply(key: Row, text: &[u8]) -> Option<Reply>
+    ensures found { IfSome result (λ told. (id : ℕ) × IsWide id × (told ≡ reply.At key id)) }
+    ensures exact { (id : ℕ) → IsWide id → text.now ≡ codes " " ++ (decimal id ++ codes "\n") → result ≡ Some (reply.At key id) }
 {
-    last_number(after(text, b" ")?)
+    let id = last_number(after(text, b" ")?)?;
+    Some(Reply::At { key, id })
 }
 
 fn seek_reply(alloc: Global, schema: &Schema, class: u32, index: u32, text: &[u8]) -> Told
@@ -205,10 +207,7 @@ fn seek_reply(alloc: Global, schema: &Schema, class: u32, index: u32, text: &[u8
     let Some((key, rest)) = key_at(alloc, schema, class, index, text)? else {
         return Ok(None);
     };
-    match last_id(rest) {
-        Some(id) => Ok(Some(Reply::At { key, id })),
-        None => Ok(None),
-    }
+    Ok(at_reply(key, rest))
 }
 
 fn count_reply(text: &[u8]) -> Option<Reply>
@@ -231,7 +230,9 @@ pub fn reply(alloc: Global, schema: &Schema, op: &Op, text: &[u8]) -> Told
         Op::Get { class, .. } => get_reply(alloc, schema, *class, text),
         Op::Put { class, .. } => Ok(put_reply(schema, *class, text)),
         Op::Del { .. } => Ok(del_reply(text)),
-        Op::Find { .. } | Op::Area { .. } | Op::Prefix { .. } => ids_reply(alloc, text),
+        Op::Find { .. } => ids_reply(alloc, text),
+        Op::Area { .. } => ids_reply(alloc, text),
+        Op::Prefix { .. } => ids_reply(alloc, text),
         Op::Seek { class, index, .. } => seek_reply(alloc, schema, *class, *index, text),
         Op::Count { .. } => Ok(count_reply(text)),
     }

@@ -51,10 +51,10 @@ fn spelled_step(alloc: Global, schema: &Schema, line: &[u8]) -> Result<Step, NoM
     let Some(told) = after(rest, b" -> ") else {
         return Ok(None);
     };
-    match reply(alloc, schema, &op, told)? {
-        Some(reply) => Ok(Some((with_made(op, &reply), reply))),
-        None => Ok(None),
-    }
+    let Some(reply) = reply(alloc, schema, &op, told)? else {
+        return Ok(None);
+    };
+    Ok(Some((with_made(op, &reply), reply)))
 }
 
 /// The operation, which fits a transaction of this kind, and the reply of which this is the line. The cost grows with the line, and with the
