@@ -1,3 +1,4 @@
+pub mod Joined
 pub mod TextLines
 pub mod Running
 pub mod Fitting

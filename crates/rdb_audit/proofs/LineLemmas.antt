@@ -31,23 +31,23 @@ on_false true e h = absurd (false≢true (sym e))
 on_false false e h = h
 
 head_not_indented : (e : Entry) (r : List ℕ) → head_line e ≡ codes "  " ++ r → ⊥
-head_not_indented (entry.Commit story commit) r e = let other : 99 ≡ 32 = ap (λ (t : List ℕ). get_or t 0 0) e in omega arith
-head_not_indented (entry.Read story) r e = let other : 114 ≡ 32 = ap (λ (t : List ℕ). get_or t 0 0) e in omega arith
-head_not_indented (entry.Abort story why) r e = let other : 97 ≡ 32 = ap (λ (t : List ℕ). get_or t 0 0) e in omega arith
-head_not_indented (entry.Handled client by at finished) r e = let other : 104 ≡ 32 = ap (λ (t : List ℕ). get_or t 0 0) e in omega arith
-head_not_indented (entry.Closed client) r e = let other : 99 ≡ 32 = ap (λ (t : List ℕ). get_or t 0 0) e in omega arith
+head_not_indented (entry.Commit story commit) r e = absurd (let other : 99 ≡ 32 = ap (λ (t : List ℕ). get_or t 0 0) e in omega arith)
+head_not_indented (entry.Read story) r e = absurd (let other : 114 ≡ 32 = ap (λ (t : List ℕ). get_or t 0 0) e in omega arith)
+head_not_indented (entry.Abort story why) r e = absurd (let other : 97 ≡ 32 = ap (λ (t : List ℕ). get_or t 0 0) e in omega arith)
+head_not_indented (entry.Handled client by at finished) r e = absurd (let other : 104 ≡ 32 = ap (λ (t : List ℕ). get_or t 0 0) e in omega arith)
+head_not_indented (entry.Closed client) r e = absurd (let other : 99 ≡ 32 = ap (λ (t : List ℕ). get_or t 0 0) e in omega arith)
 
 head_no_client : (e : Entry) (r : List ℕ) → head_line e ≡ codes "client " ++ r → ⊥
-head_no_client (entry.Commit story commit) r e = let other : 111 ≡ 108 = ap (λ (t : List ℕ). get_or t 1 0) e in omega arith
-head_no_client (entry.Read story) r e = let other : 114 ≡ 99 = ap (λ (t : List ℕ). get_or t 0 0) e in omega arith
-head_no_client (entry.Abort story why) r e = let other : 97 ≡ 99 = ap (λ (t : List ℕ). get_or t 0 0) e in omega arith
-head_no_client (entry.Handled client by at finished) r e = let other : 104 ≡ 99 = ap (λ (t : List ℕ). get_or t 0 0) e in omega arith
-head_no_client (entry.Closed client) r e = let other : 111 ≡ 105 = ap (λ (t : List ℕ). get_or t 2 0) e in omega arith
+head_no_client (entry.Commit story commit) r e = absurd (let other : 111 ≡ 108 = ap (λ (t : List ℕ). get_or t 1 0) e in omega arith)
+head_no_client (entry.Read story) r e = absurd (let other : 114 ≡ 99 = ap (λ (t : List ℕ). get_or t 0 0) e in omega arith)
+head_no_client (entry.Abort story why) r e = absurd (let other : 97 ≡ 99 = ap (λ (t : List ℕ). get_or t 0 0) e in omega arith)
+head_no_client (entry.Handled client by at finished) r e = absurd (let other : 104 ≡ 99 = ap (λ (t : List ℕ). get_or t 0 0) e in omega arith)
+head_no_client (entry.Closed client) r e = absurd (let other : 111 ≡ 105 = ap (λ (t : List ℕ). get_or t 2 0) e in omega arith)
 
 note_no_client : (schema : Schema) (n : Note) (r : List ℕ) → note_line schema n ≡ codes "client " ++ r → ⊥
-note_no_client schema (note.Watch class event at) r e = let other : 32 ≡ 99 = ap (λ (t : List ℕ). get_or t 0 0) e in omega arith
-note_no_client schema (note.Event class event commit id) r e = let other : 32 ≡ 99 = ap (λ (t : List ℕ). get_or t 0 0) e in omega arith
-note_no_client schema (note.NoEvent class event at) r e = let other : 32 ≡ 99 = ap (λ (t : List ℕ). get_or t 0 0) e in omega arith
+note_no_client schema (note.Watch class event at) r e = absurd (let other : 32 ≡ 99 = ap (λ (t : List ℕ). get_or t 0 0) e in omega arith)
+note_no_client schema (note.Event class event commit id) r e = absurd (let other : 32 ≡ 99 = ap (λ (t : List ℕ). get_or t 0 0) e in omega arith)
+note_no_client schema (note.NoEvent class event at) r e = absurd (let other : 32 ≡ 99 = ap (λ (t : List ℕ). get_or t 0 0) e in omega arith)
 
 -- what an indented line can say
 pub indented_says : (schema : Schema) (p : Progress) (r : List ℕ) (P : ReportLine → Type 0) (said : ReportLine) → text_of schema p said ≡ codes "  " ++ r

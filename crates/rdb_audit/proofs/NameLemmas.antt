@@ -1,5 +1,5 @@
 -- Names of a schema, and what they stand for.
-use Rattle.std.proofs.Common.{◌≡◌, ◌≢◌, ℕ, ◌<◌, ◌≤◌, ◌^◌, ◌⊎◌, inl, inr, Bool, true, false, cond, ltb, List, [], length, get_or, slice_get, All, Option, Some, None, IsSomeAnd, IsTrue, refl, sym, ap, ◌∙◌, subst, arith}
+use Rattle.std.proofs.Common.{◌≡◌, ◌≢◌, ℕ, ◌<◌, ◌≤◌, ◌^◌, ◌⊎◌, inl, inr, Bool, true, false, cond, ltb, List, [], ◌∷◌, ◌++◌, codes, append_assoc, length, get_or, slice_get, All, Option, Some, None, IsSomeAnd, IsTrue, refl, sym, ap, ◌∙◌, subst, arith}
 use Rattle.std.specs.Prelude.{position, nat_lt}
 use Rattle.std.specs.Option.{option_map_or}
 use Rattle.std.specs.List.{position_or_len, AllPass}
@@ -146,3 +146,7 @@ event_without schema class event sign none is h = by_class (slice_get schema.cla
         let events = subst (λ (d : Class). All (λ i. AllPass is_name_byte i.name) d.events) there (λ k d l. (all.events k d l).name.word.goes_on) in
         let one = events event at.0 (slice_get_within c.events event at.0 at.1) in
         subst (λ (name : List ℕ). All (λ byte. byte ≢ sign) name) (ap (λ (i : Event). i.name) (get_or_from_slice_get c.events event at.0 at.0 at.1) ∙ bytes_same at.0.name (event_name schema class event) at.2) (without sign (get_or c.events event at.0).name none one)
+
+-- a path in front, as it is read
+pub path_form : (owner name rest : List ℕ) → (owner ++ codes "." ++ name) ++ rest ≡ owner ++ 46 ∷ (name ++ rest)
+path_form owner name rest = append_assoc (owner ++ codes ".") name rest ∙ append_assoc owner (codes ".") (name ++ rest)

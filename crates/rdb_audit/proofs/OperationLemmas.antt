@@ -1,5 +1,5 @@
 -- The texts of operations, associated as they are read.
-use Rattle.std.proofs.Common.{◌≡◌, ℕ, ◌≤◌, Bool, true, false, ◌&&◌, List, ◌++◌, length, get_or, codes, decimal, Option, Result, Bor, IfOk, IsSomeAnd, IsTrue, ap, append_assoc, arith}
+use Rattle.std.proofs.Common.{◌≡◌, ℕ, ◌≤◌, Bool, true, false, ◌&&◌, List, ◌++◌, length, get_or, codes, decimal, Option, Result, Bor, IfOk, IsSomeAnd, IsTrue, ap, ◌∙◌, append_assoc, arith}
 use Rattle.std.specs.Prelude.{int_le, nat_le}
 use Rattle.std.proofs.lemmas.Bool.{and_parts, leb-true}
 use Rattle.rdb_base.specs.declared.limits.TheConstants.{MAX_ROW}
@@ -10,6 +10,7 @@ use Rattle.rdb_base.specs.declared.operation.How.{How}
 use Rattle.rdb_base.specs.declared.operation.Op.{Op}
 use Rattle.rdb_base.specs.declared.operation.Op.TheVariants as op
 use Rattle.rdb_base.specs.declared.operation.Place.{Place}
+use Rattle.rdb_base.specs.declared.operation.Place.TheVariants as place
 use Rattle.rdb_schema.specs.declared.schema.Schema.{Schema}
 use Rattle.rdb_schema.specs.Values.{row_holds, values_hold, row_length}
 use Rattle.rdb_schema.specs.Indexes.{key_fields, finds_keys, is_tree, is_rtree, is_patricia}
@@ -17,50 +18,51 @@ use Rattle.rdb_schema.specs.Proper.{HasEdges}
 use Rattle.rdb_model.specs.Fits.{Fits, fits_row, fits_key, fits_place, has_index}
 use Rattle.rdb_literals.specs.SpelledValues.{HasCorners}
 use Rattle.rdb_literals.specs.Printed.{quoted, rect_text, row_text}
+use Rattle.rdb_audit.proofs.Joined.{three, four, six}
 use Rattle.rdb_journal.specs.Names.{class_name, index_path}
 use Rattle.rdb_journal.specs.Operations.{how_text, place_text, operation_text}
 use Rattle.rdb_audit.specs.Printed.{IsPrintableOperation, without_made}
 
 pub new_text : (schema : Schema) (class id : ℕ) (row : List Value) (rest : List ℕ)
     → operation_text schema (op.New class row id) ++ rest ≡ codes "new " ++ (class_name schema class ++ (codes " " ++ (row_text row ++ rest)))
-new_text schema class id row rest = simp append_assoc
+new_text schema class id row rest = four (codes "new ") (class_name schema class) (codes " ") (row_text row) rest
 
 pub get_text : (schema : Schema) (class id : ℕ) (rest : List ℕ) → operation_text schema (op.Get class id) ++ rest ≡ codes "get " ++ (class_name schema class ++ (codes " " ++ (decimal id ++ rest)))
-get_text schema class id rest = simp append_assoc
+get_text schema class id rest = four (codes "get ") (class_name schema class) (codes " ") (decimal id) rest
 
 pub put_text : (schema : Schema) (class id : ℕ) (row : List Value) (rest : List ℕ)
     → operation_text schema (op.Put class id row) ++ rest ≡ codes "put " ++ (class_name schema class ++ (codes " " ++ (decimal id ++ (codes " " ++ (row_text row ++ rest)))))
-put_text schema class id row rest = simp append_assoc
+put_text schema class id row rest = six (codes "put ") (class_name schema class) (codes " ") (decimal id) (codes " ") (row_text row) rest
 
 pub del_text : (schema : Schema) (class id : ℕ) (rest : List ℕ) → operation_text schema (op.Del class id) ++ rest ≡ codes "del " ++ (class_name schema class ++ (codes " " ++ (decimal id ++ rest)))
-del_text schema class id rest = simp append_assoc
+del_text schema class id rest = four (codes "del ") (class_name schema class) (codes " ") (decimal id) rest
 
 pub find_text : (schema : Schema) (class index : ℕ) (key : List Value) (rest : List ℕ)
     → operation_text schema (op.Find class index key) ++ rest ≡ codes "find " ++ (index_path schema class index ++ (codes " " ++ (row_text key ++ rest)))
-find_text schema class index key rest = simp append_assoc
+find_text schema class index key rest = four (codes "find ") (index_path schema class index) (codes " ") (row_text key) rest
 
 pub up_text : (schema : Schema) (class index : ℕ) (spot : Place) (rest : List ℕ)
     → operation_text schema (op.Seek class index spot true) ++ rest ≡ codes "seek " ++ (index_path schema class index ++ (codes " up " ++ (place_text spot ++ rest)))
-up_text schema class index spot rest = simp append_assoc
+up_text schema class index spot rest = four (codes "seek ") (index_path schema class index) (codes " up ") (place_text spot) rest
 
 pub down_text : (schema : Schema) (class index : ℕ) (spot : Place) (rest : List ℕ)
     → operation_text schema (op.Seek class index spot false) ++ rest ≡ codes "seek " ++ (index_path schema class index ++ (codes " down " ++ (place_text spot ++ rest)))
-down_text schema class index spot rest = simp append_assoc
+down_text schema class index spot rest = four (codes "seek ") (index_path schema class index) (codes " down ") (place_text spot) rest
 
 pub inside_text : (schema : Schema) (class index : ℕ) (rect : Rect) (rest : List ℕ)
     → operation_text schema (op.Area class index rect true) ++ rest ≡ codes "area " ++ (index_path schema class index ++ (codes " inside " ++ (rect_text rect ++ rest)))
-inside_text schema class index rect rest = simp append_assoc
+inside_text schema class index rect rest = four (codes "area ") (index_path schema class index) (codes " inside ") (rect_text rect) rest
 
 pub overlaps_text : (schema : Schema) (class index : ℕ) (rect : Rect) (rest : List ℕ)
     → operation_text schema (op.Area class index rect false) ++ rest ≡ codes "area " ++ (index_path schema class index ++ (codes " overlaps " ++ (rect_text rect ++ rest)))
-overlaps_text schema class index rect rest = simp append_assoc
+overlaps_text schema class index rect rest = four (codes "area ") (index_path schema class index) (codes " overlaps ") (rect_text rect) rest
 
 pub prefix_text : (schema : Schema) (class index : ℕ) (words : List ℕ) (way : How) (rest : List ℕ)
     → operation_text schema (op.Prefix class index words way) ++ rest ≡ codes "prefix " ++ (index_path schema class index ++ (codes " " ++ (how_text way ++ (codes " " ++ (quoted words ++ rest)))))
-prefix_text schema class index words way rest = simp append_assoc
+prefix_text schema class index words way rest = six (codes "prefix ") (index_path schema class index) (codes " ") (how_text way) (codes " ") (quoted words) rest
 
 pub count_text : (schema : Schema) (class : ℕ) (rest : List ℕ) → operation_text schema (op.Count class) ++ rest ≡ codes "count " ++ (class_name schema class ++ rest)
-count_text schema class rest = simp append_assoc
+count_text schema class rest = append_assoc (codes "count ") (class_name schema class) rest
 
 -- ---- what a text asks for that begins with an operation's word
 
@@ -215,3 +217,13 @@ no_operation schema (op.Area class index rect true) text rest e new_ get_ put_ d
 no_operation schema (op.Area class index rect false) text rest e new_ get_ put_ del_ find_ seek_ area_ prefix_ count_ = area_ (index_path schema class index ++ (codes " overlaps " ++ (rect_text rect ++ rest))) (e ∙ overlaps_text schema class index rect rest)
 no_operation schema (op.Prefix class index words way) text rest e new_ get_ put_ del_ find_ seek_ area_ prefix_ count_ = prefix_ (index_path schema class index ++ (codes " " ++ (how_text way ++ (codes " " ++ (quoted words ++ rest))))) (e ∙ prefix_text schema class index words way rest)
 no_operation schema (op.Count class) text rest e new_ get_ put_ del_ find_ seek_ area_ prefix_ count_ = count_ (class_name schema class ++ rest) (e ∙ count_text schema class rest)
+
+-- a place that is neither the start nor the end is at a key
+pub other_place : (spot : Place) (text rest : List ℕ) (P : Place → Type 0) → text ≡ place_text spot ++ rest → ((r : List ℕ) → text ≡ codes "start" ++ r → ⊥) → ((r : List ℕ) → text ≡ codes "end" ++ r → ⊥)
+    → ((key : List Value) (id : ℕ) → P (place.At key id)) → P spot
+other_place place.Start text rest P e start_ end_ at_ = absurd (start_ rest e)
+other_place place.End text rest P e start_ end_ at_ = absurd (end_ rest e)
+other_place (place.At key id) text rest P e start_ end_ at_ = at_ key id
+
+pub at_text : (key : List Value) (id : ℕ) (rest : List ℕ) → place_text (place.At key id) ++ rest ≡ row_text key ++ (codes " " ++ (decimal id ++ rest))
+at_text key id rest = three (row_text key) (codes " ") (decimal id) rest

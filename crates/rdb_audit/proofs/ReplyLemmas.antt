@@ -1,5 +1,5 @@
 -- Replies, by the kind of the operation that got them.
-use Rattle.std.proofs.Common.{◌≡◌, ℕ, Bool, List, ◌++◌, codes, decimal, All, Option, Some, None, Result, Ok, Err, IfOk, IfSome, IsTrue, refl, sym, ap, ◌∙◌, subst, append_assoc}
+use Rattle.std.proofs.Common.{◌≡◌, ℕ, Bool, List, ◌++◌, codes, decimal, All, Option, Some, None, Result, Ok, Err, IfOk, IfSome, IsTrue, refl, sym, ap, ◌∙◌, subst}
 use Rattle.rdb_base.specs.declared.value.Value.{Value}
 use Rattle.rdb_base.specs.declared.value.Rect.{Rect}
 use Rattle.rdb_base.specs.declared.operation.How.{How}
@@ -13,6 +13,7 @@ use Rattle.rdb_schema.specs.Indexes.{key_fields}
 use Rattle.rdb_schema.specs.Proper.{IsProperRow}
 use Rattle.rdb_schema.specs.Values.{values_hold}
 use Rattle.rdb_literals.specs.Printed.{row_text}
+use Rattle.rdb_audit.proofs.Joined.{three, four}
 use Rattle.rdb_journal.specs.Names.{index_name}
 use Rattle.rdb_journal.specs.Replies.{ids_text, reply_text}
 use Rattle.rdb_audit.specs.Printed.{IsWide, IsPrintableRow, IsPrintableDuplicate, IsPrintableReply, with_made, without_made}
@@ -23,10 +24,10 @@ IsTold schema asked text Is told = IsPrintableReply schema (with_made asked told
 
 duplicate_text : (schema : Schema) (class index other : ℕ)
     → codes "duplicate " ++ index_name schema class index ++ codes " " ++ decimal other ++ codes "\n" ≡ codes "duplicate " ++ (index_name schema class index ++ (codes " " ++ (decimal other ++ codes "\n")))
-duplicate_text schema class index other = simp append_assoc
+duplicate_text schema class index other = four (codes "duplicate ") (index_name schema class index) (codes " ") (decimal other) (codes "\n")
 
 at_text : (key : List Value) (id : ℕ) → row_text key ++ codes " " ++ decimal id ++ codes "\n" ≡ row_text key ++ (codes " " ++ (decimal id ++ codes "\n"))
-at_text key id = append_assoc (row_text key ++ codes " ") (decimal id) (codes "\n") ∙ append_assoc (row_text key) (codes " ") (decimal id ++ codes "\n")
+at_text key id = three (row_text key) (codes " ") (decimal id) (codes "\n")
 
 pub new_told : (schema : Schema) (class : ℕ) (row : List Value) (id : ℕ) (text : List ℕ) (Is : Reply → Type 0)
     → ((made : ℕ) → IsWide made → text ≡ codes "made " ++ (decimal made ++ codes "\n") → Is (reply.Made made))

@@ -1,5 +1,5 @@
 -- Steps: an operation and its reply, the id that was made in either.
-use Rattle.std.proofs.Common.{◌≡◌, ℕ, Bool, true, false, List, ◌++◌, codes, Option, Some, IsTrue, refl, sym, ap, ◌∙◌, subst, append_assoc}
+use Rattle.std.proofs.Common.{◌≡◌, ℕ, Bool, true, false, List, ◌++◌, codes, Option, Some, IsTrue, refl, sym, ap, ◌∙◌, subst}
 use Rattle.std.proofs.lemmas.Bool.{false≢true}
 use Rattle.rdb_base.specs.declared.identity.Kind.{Kind}
 use Rattle.rdb_base.specs.declared.identity.Kind.TheVariants as kind
@@ -13,6 +13,7 @@ use Rattle.rdb_journal.specs.Operations.{operation_text, OperationNamesExist}
 use Rattle.rdb_journal.specs.Replies.{reply_text, ReplyNamesExist}
 use Rattle.rdb_journal.specs.Lines.{operation_line}
 use Rattle.rdb_audit.specs.Printed.{IsPrintableOperation, IsPrintableReply, with_made, without_made}
+use Rattle.rdb_audit.proofs.Joined.{four}
 use Rattle.rdb_audit.proofs.NameLemmas.{has_class, has_index}
 
 -- ---- what can be printed names what is there
@@ -124,7 +125,7 @@ fits_writing schema (op.Count class) kind.ReadOnly h = h
 
 pub line_text : (schema : Schema) (asked : Op) (told : Reply)
     → operation_line schema (asked, told) ≡ codes "  " ++ (operation_text schema asked ++ (codes " -> " ++ (reply_text schema asked told ++ codes "\n")))
-line_text schema asked told = simp append_assoc
+line_text schema asked told = four (codes "  ") (operation_text schema asked) (codes " -> ") (reply_text schema asked told) (codes "\n")
 
 -- the reply of an operation that was read without the id that it made
 pub reply_made : (schema : Schema) (bare asked : Op) (told : Reply) (text : List ℕ) (o : Option Reply) → bare ≡ without_made asked → IsPrintableReply schema asked told → text ≡ reply_text schema asked told ++ codes "\n"

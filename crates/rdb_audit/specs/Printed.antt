@@ -50,7 +50,8 @@ index_named schema class name =
     option_map_or (λ c. narrow (position (λ i. bytes_eq i.name name) c.indexes)) (slice_get schema.classes class) None
 
 abbrev pub event_named : Schema → ℕ → List ℕ → Option ℕ
-event_named schema class name = option_map_or (λ c. narrow (position (λ e. bytes_eq e.name name) c.events)) (slice_get schema.classes class) None
+event_named schema class name =
+    option_map_or (λ c. narrow (position (λ e. bytes_eq e.name name) c.events)) (slice_get schema.classes class) None
 
 -- the class is the one that its name stands for
 abbrev pub HasClassName : Schema → ℕ → Type 0
@@ -82,8 +83,8 @@ pub record IsPrintableKey (schema : Schema) (class index : ℕ) (key : List Valu
 
 -- ---- operations and replies
 
--- a place's key is text and boxes that a program holds; that it is one of the index, and an operation's values those of the class, is asked by
--- whether the operation fits
+-- a place's key is text and boxes that a program holds; that it is one of the index, and an operation's values those of the class, is
+-- asked by whether the operation fits
 abbrev pub IsPrintablePlace : Place → Type 0
 IsPrintablePlace place.Start = ⊤
 IsPrintablePlace place.End = ⊤

@@ -25,7 +25,8 @@ fn stopped(text: &[u8]) -> Option<End>
 
 fn gone(text: &[u8]) -> Option<End>
     ensures found { IfSome result (λ e. (codes "gone by " ++ text.now ≡ end_text e ++ codes "\n") × IsPrintableEnd e) }
-    ensures exact { (by at : ℕ) → IsNarrow by → IsWide at → text.now ≡ decimal by ++ (codes " at " ++ (decimal at ++ codes "\n")) → result ≡ Some (end.Gone by at) }
+    ensures exact { (by at : ℕ) → IsNarrow by → IsWide at → text.now ≡ decimal by ++ (codes " at " ++ (decimal at ++ codes "\n"))
+        → result ≡ Some (end.Gone by at) }
 {
     let (by, rest) = narrow_at(text)?;
     let at = last_number(after(rest, b" at ")?)?;
@@ -48,7 +49,8 @@ fn end(text: &[u8]) -> Option<End>
 /// How the client of this number ended, behind the word `client`.
 fn end_of(text: &[u8], client: u32) -> Option<End>
     ensures found { IfSome result (λ e. (text.now ≡ decimal client ++ (codes " " ++ (end_text e ++ codes "\n"))) × IsPrintableEnd e) }
-    ensures exact { (e : Ending) → IsPrintableEnd e → text.now ≡ decimal client ++ (codes " " ++ (end_text e ++ codes "\n")) → result ≡ Some e }
+    ensures exact { (e : Ending) → IsPrintableEnd e → text.now ≡ decimal client ++ (codes " " ++ (end_text e ++ codes "\n"))
+        → result ≡ Some e }
 {
     let (number, rest) = narrow_at(text)?;
     if number != client {
@@ -68,7 +70,8 @@ pub fn client(line: &[u8], client: u32) -> Option<End>
 fn watch(schema: &Schema, text: &[u8]) -> Option<Note>
     ensures found { IfSome result (λ n. (codes "  watch " ++ text.now ≡ note_line schema.now n) × IsPrintableNote schema.now n) }
     ensures exact { (class event at : ℕ) → IsSchema schema.now → HasEventPath schema.now class event → IsWide at
-        → text.now ≡ event_path schema.now class event ++ (codes " at " ++ (decimal at ++ codes "\n")) → result ≡ Some (note.Watch class event at) }
+        → text.now ≡ event_path schema.now class event ++ (codes " at " ++ (decimal at ++ codes "\n"))
+        → result ≡ Some (note.Watch class event at) }
 {
     let (class, event, rest) = event_path_at(schema, text)?;
     let at = last_number(after(rest, b" at ")?)?;
@@ -88,11 +91,14 @@ fn occurrence(text: &[u8]) -> Option<(u64, u64)>
 
 fn poll(schema: &Schema, text: &[u8]) -> Option<Note>
     ensures found { IfSome result (λ n. (codes "  poll " ++ text.now ≡ note_line schema.now n) × IsPrintableNote schema.now n) }
-    ensures exact_event { (class event commit id : ℕ) → IsSchema schema.now → HasEventPath schema.now class event → IsWide commit → IsWide id
-        → text.now ≡ event_path schema.now class event ++ (codes " -> commit " ++ (decimal commit ++ (codes " id " ++ (decimal id ++ codes "\n"))))
+    ensures exact_event { (class event commit id : ℕ) → IsSchema schema.now → HasEventPath schema.now class event → IsWide commit
+        → IsWide id
+        → text.now ≡ event_path schema.now class event
+            ++ (codes " -> commit " ++ (decimal commit ++ (codes " id " ++ (decimal id ++ codes "\n"))))
         → result ≡ Some (note.Event class event commit id) }
     ensures exact_none { (class event at : ℕ) → IsSchema schema.now → HasEventPath schema.now class event → IsWide at
-        → text.now ≡ event_path schema.now class event ++ (codes " -> none at " ++ (decimal at ++ codes "\n")) → result ≡ Some (note.NoEvent class event at) }
+        → text.now ≡ event_path schema.now class event ++ (codes " -> none at " ++ (decimal at ++ codes "\n"))
+        → result ≡ Some (note.NoEvent class event at) }
 {
     let (class, event, rest) = event_path_at(schema, text)?;
     if let Some(told) = after(rest, b" -> commit ") {
@@ -108,8 +114,8 @@ fn poll(schema: &Schema, text: &[u8]) -> Option<Note>
     Some(Note::NoEvent { class, event, at })
 }
 
-/// What a watch or a poll was told, where this is its line. It takes no memory. The cost grows with the line, and with the numbers of classes
-/// and of the class's events.
+/// What a watch or a poll was told, where this is its line. It takes no memory. The cost grows with the line, and with the numbers of
+/// classes and of the class's events.
 pub fn note(schema: &Schema, line: &[u8]) -> Option<Note>
     ensures found { IfSome result (λ n. (line.now ≡ note_line schema.now n) × IsPrintableNote schema.now n) }
     ensures exact { (n : Told) → IsSchema schema.now → line.now ≡ note_line schema.now n → IsPrintableNote schema.now n → result ≡ Some n }

@@ -208,7 +208,8 @@ fn owner_at<'a>(schema: &Schema, text: &'a [u8]) -> Option<(u32, &'a [u8])>
 pub fn index_path_at<'a>(schema: &Schema, text: &'a [u8]) -> Option<(u32, u32, &'a [u8])>
     ensures found { IfSome result (λ r. (text.now ≡ index_path schema.now r.0 r.1 ++ r.2.now) × HasIndexPath schema.now r.0 r.1) }
     ensures exact { (class index : ℕ) (rest : List ℕ) → IsSchema schema.now → HasIndexPath schema.now class index
-        → text.now ≡ index_path schema.now class index ++ 32 ∷ rest → IsSomeAnd result (λ r. (r.0 ≡ class) × (r.1 ≡ index) × (r.2.now ≡ 32 ∷ rest)) }
+        → text.now ≡ index_path schema.now class index ++ 32 ∷ rest → IsSomeAnd result (λ r. (r.0 ≡ class) × (r.1 ≡ index)
+        × (r.2.now ≡ 32 ∷ rest)) }
 {
     let (class, behind) = owner_at(schema, text)?;
     let (index, rest) = index_at(schema, class, behind)?;
@@ -219,7 +220,8 @@ pub fn index_path_at<'a>(schema: &Schema, text: &'a [u8]) -> Option<(u32, u32, &
 pub fn event_path_at<'a>(schema: &Schema, text: &'a [u8]) -> Option<(u32, u32, &'a [u8])>
     ensures found { IfSome result (λ r. (text.now ≡ event_path schema.now r.0 r.1 ++ r.2.now) × HasEventPath schema.now r.0 r.1) }
     ensures exact { (class event : ℕ) (rest : List ℕ) → IsSchema schema.now → HasEventPath schema.now class event
-        → text.now ≡ event_path schema.now class event ++ 32 ∷ rest → IsSomeAnd result (λ r. (r.0 ≡ class) × (r.1 ≡ event) × (r.2.now ≡ 32 ∷ rest)) }
+        → text.now ≡ event_path schema.now class event ++ 32 ∷ rest → IsSomeAnd result (λ r. (r.0 ≡ class) × (r.1 ≡ event)
+        × (r.2.now ≡ 32 ∷ rest)) }
 {
     let (class, behind) = owner_at(schema, text)?;
     let (event, rest) = event_at(schema, class, behind)?;

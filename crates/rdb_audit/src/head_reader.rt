@@ -62,7 +62,8 @@ fn story(alloc: Global, origin: Origin, snapshot: u64) -> Story
 
 fn commit(alloc: Global, text: &[u8]) -> Option<Entry>
     ensures found { IfSome result (IsHead (codes "commit " ++ text.now)) }
-    ensures exact { (commit client number begun snapshot : ℕ) → IsWide commit → IsNarrow client → IsWide number → IsWide begun → IsWide snapshot
+    ensures exact { (commit client number begun snapshot : ℕ) → IsWide commit → IsNarrow client → IsWide number → IsWide begun
+        → IsWide snapshot
         → text.now ≡ decimal commit ++ (codes " client " ++ (decimal client ++ (codes " tx " ++ (decimal number
         ++ (codes " begun " ++ (decimal begun ++ (codes " snapshot " ++ (decimal snapshot ++ codes "\n"))))))))
         → result ≡ Some (entry.Commit (record { client = client; number = number; begun = begun; snapshot = snapshot; done = [] }) commit) }
@@ -127,7 +128,8 @@ fn cause_at(text: &[u8]) -> Option<(Cause, &[u8])>
 
 fn abort(alloc: Global, text: &[u8]) -> Option<Entry>
     ensures found { IfSome result (IsHead (codes "abort client " ++ text.now)) }
-    ensures exact { (client number begun snapshot : ℕ) (why : Why) → IsNarrow client → IsWide number → IsWide begun → IsWide snapshot → IsPrintableCause why
+    ensures exact { (client number begun snapshot : ℕ) (why : Why) → IsNarrow client → IsWide number → IsWide begun → IsWide snapshot
+        → IsPrintableCause why
         → text.now ≡ decimal client ++ (codes " tx " ++ (decimal number
         ++ (codes " begun " ++ (decimal begun ++ (codes " at " ++ (decimal snapshot ++ (codes " " ++ (cause_text why ++ codes "\n"))))))))
         → result ≡ Some (entry.Abort (record { client = client; number = number; begun = begun; snapshot = snapshot; done = [] }) why) }

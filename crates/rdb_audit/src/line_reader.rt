@@ -45,8 +45,10 @@ fn begins(line: &[u8], word: &[u8]) -> bool
 fn step_line(alloc: Global, schema: &Schema, progress: &Progress, line: &[u8]) -> Read
     requires is_schema { IsSchema schema.now }
     requires entries { progress.now.section ≡ section.Entries }
-    ensures found { IfOk result (λ o. IfSome o (λ says. (line.now ≡ text_of schema.now progress.now says) × MayStand schema.now progress.now says)) }
-    ensures exact { (operation : Op) (told : Reply) (may : Kind) → open_kind progress.now ≡ Some may → IsPrintableStep schema.now may (operation, told)
+    ensures found { IfOk result (λ o. IfSome o (λ says. (line.now ≡ text_of schema.now progress.now says)
+        × MayStand schema.now progress.now says)) }
+    ensures exact { (operation : Op) (told : Reply) (may : Kind) → open_kind progress.now ≡ Some may
+        → IsPrintableStep schema.now may (operation, told)
         → line.now ≡ operation_line schema.now (operation, told) → IfOk result (λ o. o ≡ Some (says.Step operation told)) }
 {
     let Some(kind) = progress.open_kind() else {
@@ -61,7 +63,8 @@ fn step_line(alloc: Global, schema: &Schema, progress: &Progress, line: &[u8]) -
 /// What a watch or a poll was told.
 fn told_line(schema: &Schema, line: &[u8]) -> Option<ReportLine>
     requires is_schema { IsSchema schema.now }
-    ensures found { IfSome result (λ said. (n : Told) × (said ≡ says.Note n) × (line.now ≡ note_line schema.now n) × IsPrintableNote schema.now n) }
+    ensures found { IfSome result (λ said. (n : Told) × (said ≡ says.Note n) × (line.now ≡ note_line schema.now n)
+        × IsPrintableNote schema.now n) }
     ensures exact { (n : Told) → line.now ≡ note_line schema.now n → IsPrintableNote schema.now n → result ≡ Some (says.Note n) }
 {
     let note = note(schema, line)?;
@@ -71,11 +74,14 @@ fn told_line(schema: &Schema, line: &[u8]) -> Option<ReportLine>
 /// A line that is indented: an operation or a note, by the section.
 fn indented(alloc: Global, schema: &Schema, progress: &Progress, line: &[u8]) -> Read
     requires is_schema { IsSchema schema.now }
-    ensures found { IfOk result (λ o. IfSome o (λ says. (line.now ≡ text_of schema.now progress.now says) × MayStand schema.now progress.now says)) }
-    ensures exact_step { (operation : Op) (told : Reply) (may : Kind) → progress.now.section ≡ section.Entries → open_kind progress.now ≡ Some may
+    ensures found { IfOk result (λ o. IfSome o (λ says. (line.now ≡ text_of schema.now progress.now says)
+        × MayStand schema.now progress.now says)) }
+    ensures exact_step { (operation : Op) (told : Reply) (may : Kind) → progress.now.section ≡ section.Entries
+        → open_kind progress.now ≡ Some may
         → IsPrintableStep schema.now may (operation, told) → line.now ≡ operation_line schema.now (operation, told)
         → IfOk result (λ o. o ≡ Some (says.Step operation told)) }
-    ensures exact_note { (n : Told) → progress.now.section ≡ section.Clients → line.now ≡ note_line schema.now n → IsPrintableNote schema.now n
+    ensures exact_note { (n : Told) → progress.now.section ≡ section.Clients → line.now ≡ note_line schema.now n
+        → IsPrintableNote schema.now n
         → IfOk result (λ o. o ≡ Some (says.Note n)) }
 {
     match progress.section {
@@ -87,7 +93,8 @@ fn indented(alloc: Global, schema: &Schema, progress: &Progress, line: &[u8]) ->
 
 /// The line of the next client, before the totals.
 fn end_line(progress: &Progress, line: &[u8]) -> Option<ReportLine>
-    ensures found { (schema : Declared) → IfSome result (λ says. (line.now ≡ text_of schema progress.now says) × MayStand schema progress.now says) }
+    ensures found { (schema : Declared) → IfSome result (λ says. (line.now ≡ text_of schema progress.now says)
+        × MayStand schema progress.now says) }
     ensures exact { (e : Ending) → progress.now.section ≢ section.Over → IsNarrow (progress.now.clients + 1) → IsPrintableEnd e
         → line.now ≡ client_line (progress.now.clients + 1) e → result ≡ Some (says.End e) }
 {
@@ -101,7 +108,8 @@ fn end_line(progress: &Progress, line: &[u8]) -> Option<ReportLine>
 
 /// The first line of an entry, where entries stand above.
 fn entry_line(alloc: Global, progress: &Progress, line: &[u8]) -> Option<ReportLine>
-    ensures found { (schema : Declared) → IfSome result (λ says. (line.now ≡ text_of schema progress.now says) × MayStand schema progress.now says) }
+    ensures found { (schema : Declared) → IfSome result (λ says. (line.now ≡ text_of schema progress.now says)
+        × MayStand schema progress.now says) }
     ensures exact { (e : Entry) → progress.now.section ≡ section.Entries → IsHead line.now e → result ≡ Some (says.Entry e) }
 {
     match progress.section {
@@ -117,7 +125,8 @@ fn entry_line(alloc: Global, progress: &Progress, line: &[u8]) -> Option<ReportL
 pub fn report_line(alloc: Global, schema: &Schema, progress: &Progress, line: &[u8]) -> Read
     requires is_schema { IsSchema schema.now }
     requires other { is_last line.now ≡ false }
-    ensures found { IfOk result (λ o. IfSome o (λ says. (line.now ≡ text_of schema.now progress.now says) × MayStand schema.now progress.now says)) }
+    ensures found { IfOk result (λ o. IfSome o (λ says. (line.now ≡ text_of schema.now progress.now says)
+        × MayStand schema.now progress.now says)) }
     ensures exact { (said : Said) → line.now ≡ text_of schema.now progress.now said → MayStand schema.now progress.now said
         → IfOk result (λ o. o ≡ Some said) }
 {

@@ -1,5 +1,5 @@
-//! Reads an operation. Its values may stand there in any form in which they may be written: that it is the printed one is asked of the whole
-//! line. It touches nothing but the text and the schema that it is lent.
+//! Reads an operation. Its values may stand there in any form in which they may be written: that it is the printed one is asked of the
+//! whole line. It touches nothing but the text and the schema that it is lent.
 
 ghost use Rattle.std.specs.Prelude.{◌≡◌, ◌++◌, ◌∷◌, ◌≤◌, ℕ, true, false, codes, decimal, length, List, IfOk, IfSome, IsSomeAnd, IsTrue};
 ghost use Rattle.std.specs.Str.{IsUtf8};
@@ -46,7 +46,8 @@ fn class_then<'a>(schema: &Schema, text: &'a [u8]) -> Option<(u32, &'a [u8])>
 fn path_then<'a>(schema: &Schema, text: &'a [u8]) -> Option<(u32, u32, &'a [u8])>
     ensures found { IfSome result (λ r. HasIndexPath schema.now r.0 r.1) }
     ensures exact { (class index : ℕ) (rest : List ℕ) → IsSchema schema.now → HasIndexPath schema.now class index
-        → text.now ≡ index_path schema.now class index ++ (codes " " ++ rest) → IsSomeAnd result (λ r. (r.0 ≡ class) × (r.1 ≡ index) × (r.2.now ≡ rest)) }
+        → text.now ≡ index_path schema.now class index ++ (codes " " ++ rest) → IsSomeAnd result (λ r. (r.0 ≡ class) × (r.1 ≡ index)
+        × (r.2.now ≡ rest)) }
 {
     let (class, index, rest) = index_path_at(schema, text)?;
     let behind = after(rest, b" ")?;
@@ -80,7 +81,8 @@ fn object_then<'a>(schema: &Schema, text: &'a [u8]) -> Option<(u32, u64, &'a [u8
 fn new_at<'a>(alloc: Global, schema: &Schema, text: &'a [u8]) -> Found<'a, Op>
     ensures found { IfOk result (λ o. IfSome o (λ r. IsPrintableOperation schema.now r.0 × (without_made r.0 ≡ r.0))) }
     ensures exact { (class : ℕ) (row : List Value) (rest : List ℕ) → IsSchema schema.now → HasClassName schema.now class
-        → IsTrue (row_holds schema.now class row) → IsProperRow row → text.now ≡ class_name schema.now class ++ (codes " " ++ (row_text row ++ rest))
+        → IsTrue (row_holds schema.now class row) → IsProperRow row
+        → text.now ≡ class_name schema.now class ++ (codes " " ++ (row_text row ++ rest))
         → IfOk result (λ o. IsSomeAnd o (λ r. (r.0 ≡ op.New class row 0) × (r.1.now ≡ rest))) }
 {
     let Some((class, values)) = class_then(schema, text) else {
@@ -174,7 +176,8 @@ fn key_place_at<'a>(
     text: &'a [u8],
 ) -> Found<'a, Place>
     ensures found { IfOk result (λ o. IfSome o (λ r. IsPrintablePlace r.0)) }
-    ensures exact { (key : List Value) (id : ℕ) (rest : List ℕ) → IsTrue (values_hold schema.now (key_fields schema.now class index) key) → IsProperRow key
+    ensures exact { (key : List Value) (id : ℕ) (rest : List ℕ)
+        → IsTrue (values_hold schema.now (key_fields schema.now class index) key) → IsProperRow key
         → IsWide id → BeginsNoDigit rest → text.now ≡ row_text key ++ (codes " " ++ (decimal id ++ rest))
         → IfOk result (λ o. IsSomeAnd o (λ r. (r.0 ≡ place.At key id) × (r.1.now ≡ rest))) }
 {
@@ -192,7 +195,8 @@ fn place_at<'a>(
     text: &'a [u8],
 ) -> Found<'a, Place>
     ensures found { IfOk result (λ o. IfSome o (λ r. IsPrintablePlace r.0)) }
-    ensures exact { (spot : Spot) (rest : List ℕ) → IsTrue (fits_place schema.now class index spot) → IsPrintablePlace spot → BeginsNoDigit rest
+    ensures exact { (spot : Spot) (rest : List ℕ) → IsTrue (fits_place schema.now class index spot) → IsPrintablePlace spot
+        → BeginsNoDigit rest
         → text.now ≡ place_text spot ++ rest → IfOk result (λ o. IsSomeAnd o (λ r. (r.0 ≡ spot) × (r.1.now ≡ rest))) }
 {
     if let Some(rest) = after(text, b"start") {
@@ -259,10 +263,12 @@ fn inside_at(text: &[u8]) -> Option<(bool, &[u8])>
 
 fn area_at<'a>(schema: &Schema, text: &'a [u8]) -> Option<(Op, &'a [u8])>
     ensures found { IfSome result (λ r. IsPrintableOperation schema.now r.0 × (without_made r.0 ≡ r.0)) }
-    ensures inside { (class index : ℕ) (rect : Box) (rest : List ℕ) → IsSchema schema.now → HasIndexPath schema.now class index → HasCorners rect
+    ensures inside { (class index : ℕ) (rect : Box) (rest : List ℕ) → IsSchema schema.now → HasIndexPath schema.now class index
+        → HasCorners rect
         → text.now ≡ index_path schema.now class index ++ (codes " inside " ++ (rect_text rect ++ rest))
         → IsSomeAnd result (λ r. (r.0 ≡ op.Area class index rect true) × (r.1.now ≡ rest)) }
-    ensures overlaps { (class index : ℕ) (rect : Box) (rest : List ℕ) → IsSchema schema.now → HasIndexPath schema.now class index → HasCorners rect
+    ensures overlaps { (class index : ℕ) (rect : Box) (rest : List ℕ) → IsSchema schema.now → HasIndexPath schema.now class index
+        → HasCorners rect
         → text.now ≡ index_path schema.now class index ++ (codes " overlaps " ++ (rect_text rect ++ rest))
         → IsSomeAnd result (λ r. (r.0 ≡ op.Area class index rect false) × (r.1.now ≡ rest)) }
 {
@@ -280,7 +286,8 @@ fn area_at<'a>(schema: &Schema, text: &'a [u8]) -> Option<(Op, &'a [u8])>
 
 /// The way of looking a text up, behind which a space stands.
 fn how_at(text: &[u8]) -> Option<(How, &[u8])>
-    ensures exact { (way : Way) (rest : List ℕ) → text.now ≡ how_text way ++ (codes " " ++ rest) → IsSomeAnd result (λ r. (r.0 ≡ way) × (r.1.now ≡ rest)) }
+    ensures exact { (way : Way) (rest : List ℕ) → text.now ≡ how_text way ++ (codes " " ++ rest) → IsSomeAnd result (λ r. (r.0 ≡ way)
+        × (r.1.now ≡ rest)) }
 {
     if let Some(rest) = after(text, b"exact ") {
         return Some((How::Exact, rest));
@@ -306,7 +313,8 @@ fn way_at<'a>(schema: &Schema, text: &'a [u8]) -> Option<(u32, u32, How, &'a [u8
 
 fn prefix_at<'a>(alloc: Global, schema: &Schema, text: &'a [u8]) -> Found<'a, Op>
     ensures found { IfOk result (λ o. IfSome o (λ r. IsPrintableOperation schema.now r.0 × (without_made r.0 ≡ r.0))) }
-    ensures exact { (class index : ℕ) (words : List ℕ) (way : Way) (rest : List ℕ) → IsSchema schema.now → HasIndexPath schema.now class index
+    ensures exact { (class index : ℕ) (words : List ℕ) (way : Way) (rest : List ℕ) → IsSchema schema.now
+        → HasIndexPath schema.now class index
         → IsUtf8 words → length words ≤ 255
         → text.now ≡ index_path schema.now class index ++ (codes " " ++ (how_text way ++ (codes " " ++ (quoted words ++ rest))))
         → IfOk result (λ o. IsSomeAnd o (λ r. (r.0 ≡ op.Prefix class index words way) × (r.1.now ≡ rest))) }
@@ -339,8 +347,10 @@ fn count_at<'a>(schema: &Schema, text: &'a [u8]) -> Option<(Op, &'a [u8])>
 /// operation's text.
 pub fn operation_at<'a>(alloc: Global, schema: &Schema, text: &'a [u8]) -> Found<'a, Op>
     ensures found { IfOk result (λ o. IfSome o (λ r. IsPrintableOperation schema.now r.0 × (without_made r.0 ≡ r.0))) }
-    ensures exact { (asked : Asked) (rest : List ℕ) → IsSchema schema.now → IsPrintableOperation schema.now asked → Fits schema.now asked kind.ReadWrite
-        → text.now ≡ operation_text schema.now asked ++ 32 ∷ rest → IfOk result (λ o. IsSomeAnd o (λ r. (r.0 ≡ without_made asked) × (r.1.now ≡ 32 ∷ rest))) }
+    ensures exact { (asked : Asked) (rest : List ℕ) → IsSchema schema.now → IsPrintableOperation schema.now asked
+        → Fits schema.now asked kind.ReadWrite
+        → text.now ≡ operation_text schema.now asked ++ 32 ∷ rest → IfOk result (λ o. IsSomeAnd o (λ r. (r.0 ≡ without_made asked)
+        × (r.1.now ≡ 32 ∷ rest))) }
 {
     if let Some(rest) = after(text, b"new ") {
         return new_at(alloc, schema, rest);

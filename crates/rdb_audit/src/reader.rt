@@ -51,7 +51,8 @@ fn first_feed(text: &[u8]) -> Option<usize>
     text.iter().position(|byte| *byte == b'\n')
 }
 
-/// The first line of a text, with its line feed if it has one, and what stands behind it; None at the text's end. The cost grows with the line.
+/// The first line of a text, with its line feed if it has one, and what stands behind it; None at the text's end. The cost grows with the
+/// line.
 fn next_line(text: &[u8]) -> Option<(&[u8], &[u8])>
     ensures none { IfNone result (lines text.now ≡ []) }
     ensures some { IfSome result (λ found. lines text.now ≡ found.0.now ∷ lines found.1.now) }
@@ -110,7 +111,8 @@ fn take_other(
     requires is_schema { IsSchema schema.now }
     requires other { is_last line.now ≡ false }
     ensures took { IfOk result (λ b. OnTrue b (IsLine schema.now progress.old line.now progress.new)) }
-    ensures only { IfOk result (λ b. (other : Behind) → IsLine schema.now progress.old line.now other → (b ≡ true) × (other ≡ progress.new)) }
+    ensures only { IfOk result (λ b. (other : Behind) → IsLine schema.now progress.old line.now other → (b ≡ true)
+        × (other ≡ progress.new)) }
 {
     let Some(said) = report_line(alloc, schema, progress, line)? else {
         return Ok(false);
@@ -128,7 +130,8 @@ fn take_line(
 ) -> Result<bool, NoMemory>
     requires is_schema { IsSchema schema.now }
     ensures took { IfOk result (λ b. OnTrue b (IsLine schema.now progress.old line.now progress.new)) }
-    ensures only { IfOk result (λ b. (other : Behind) → IsLine schema.now progress.old line.now other → (b ≡ true) × (other ≡ progress.new)) }
+    ensures only { IfOk result (λ b. (other : Behind) → IsLine schema.now progress.old line.now other → (b ≡ true)
+        × (other ≡ progress.new)) }
 {
     if is_last(line) {
         return take_totals(alloc, progress, line);
@@ -136,10 +139,11 @@ fn take_line(
     take_other(alloc, schema, progress, line)
 }
 
-/// The journal of a report: the entries whose lines it has, each `new` with the id that it made, or 0 where it made none. Where the text is no
-/// report, the answer names the first line, from 1, that isn't one in its printed form, that names or holds what the schema doesn't have, or
-/// that may not stand where it stands: the entries come first, then the clients 1, 2 and so on, then the totals, which are those of the
-/// entries. A missing line is the one after the last. The cost grows with the report.
+/// The journal of a report: the entries whose lines it has, each `new` with the id that it made, or 0 where it made none. Its operations
+/// fit the schema and name what it has, so that it can be judged and printed. Where the text is no report, the answer names the first
+/// line, from 1, that isn't one in its printed form, that names or holds what the schema doesn't have, or that may not stand where it
+/// stands: the entries come first, then the clients 1, 2 and so on, then the totals, which are those of the entries. A missing line is the
+/// one after the last. The cost grows with the report.
 pub fn read(alloc: Global, schema: &Schema, report: &[u8]) -> Result<Entries, ReadFault>
     requires is_schema { IsSchema schema.now }
     requires short { length report.now < 2 ^ 32 }

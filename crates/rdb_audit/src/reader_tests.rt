@@ -179,7 +179,7 @@ enum Edit {
 fn edited(alloc: Global, number: usize, edit: Edit) -> Result<String, Fail> {
     let mut text = String::new(alloc);
     for (place, line) in FIRST_CONFLICT.lines().enumerate() {
-        if place + 1 == number {
+        if place.saturating_add(1) == number {
             push_edited(&mut text, line, edit)?;
         } else {
             push_line(&mut text, line, "\n")?;

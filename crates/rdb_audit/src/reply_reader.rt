@@ -36,7 +36,8 @@ type Told = Result<Option<Reply>, NoMemory>;
 fn duplicate(schema: &Schema, class: u32, text: &[u8]) -> Option<(u32, u64)>
     ensures found { IfSome result (λ r. IsPrintableDuplicate schema.now class r.0 r.1) }
     ensures exact { (index id : ℕ) → IsSchema schema.now → IsPrintableDuplicate schema.now class index id
-        → text.now ≡ index_name schema.now class index ++ (codes " " ++ (decimal id ++ codes "\n")) → IsSomeAnd result (λ r. (r.0 ≡ index) × (r.1 ≡ id)) }
+        → text.now ≡ index_name schema.now class index ++ (codes " " ++ (decimal id ++ codes "\n"))
+        → IsSomeAnd result (λ r. (r.0 ≡ index) × (r.1 ≡ id)) }
 {
     let (index, rest) = index_at(schema, class, text)?;
     let id = last_number(after(rest, b" ")?)?;
@@ -45,7 +46,8 @@ fn duplicate(schema: &Schema, class: u32, text: &[u8]) -> Option<(u32, u64)>
 
 fn new_reply(schema: &Schema, class: u32, text: &[u8]) -> Option<Reply>
     ensures found { (row : Listed Value) → IfSome result (λ told. IsPrintableReply schema.now (with_made (op.New class row 0) told) told) }
-    ensures exact_made { (made : ℕ) → IsWide made → text.now ≡ codes "made " ++ (decimal made ++ codes "\n") → result ≡ Some (reply.Made made) }
+    ensures exact_made { (made : ℕ) → IsWide made → text.now ≡ codes "made " ++ (decimal made ++ codes "\n")
+        → result ≡ Some (reply.Made made) }
     ensures exact_duplicate { (index id : ℕ) → IsSchema schema.now → IsPrintableDuplicate schema.now class index id
         → text.now ≡ codes "duplicate " ++ (index_name schema.now class index ++ (codes " " ++ (decimal id ++ codes "\n")))
         → result ≡ Some (reply.Duplicate index id) }
@@ -73,7 +75,8 @@ fn last_row(
     text: &[u8],
 ) -> Result<Option<Row>, NoMemory>
     ensures found { IfOk result (λ o. IfSome o (IsPrintableRow schema.now class)) }
-    ensures exact { (row : Listed Value) → IsPrintableRow schema.now class row → text.now ≡ row_text row ++ codes "\n" → IfOk result (λ o. o ≡ Some row) }
+    ensures exact { (row : Listed Value) → IsPrintableRow schema.now class row → text.now ≡ row_text row ++ codes "\n"
+        → IfOk result (λ o. o ≡ Some row) }
 {
     let Some((row, rest)) = row_at(alloc, schema, class, text)? else {
         return Ok(None);
@@ -146,6 +149,7 @@ fn next_id(text: &[u8]) -> Option<(u64, &[u8])>
 
 /// These ids and those behind them, each behind a space, up to the line feed. The cost grows with the text.
 fn further_ids(mut ids: Ids, text: &[u8]) -> Result<Option<Ids>, NoMemory>
+    requires { All IsWide ids }
     ensures wide { IfOk result (λ o. IfSome o (All IsWide)) }
     ensures exact { (others : Listed ℕ) → All IsWide others → text.now ≡ flat_map (λ id. codes " " ++ decimal id) others ++ codes "\n"
         → IfOk result (λ o. o ≡ Some (ids ++ others)) }
@@ -178,7 +182,8 @@ fn ids(alloc: Global, text: &[u8]) -> Result<Option<Ids>, NoMemory>
 
 fn ids_reply(alloc: Global, text: &[u8]) -> Told
     ensures found { IfOk result (λ o. IfSome o (λ told. (all : Listed ℕ) × All IsWide all × (told ≡ reply.Ids all))) }
-    ensures exact { (all : Listed ℕ) → All IsWide all → text.now ≡ ids_text all ++ codes "\n" → IfOk result (λ o. o ≡ Some (reply.Ids all)) }
+    ensures exact { (all : Listed ℕ) → All IsWide all → text.now ≡ ids_text all ++ codes "\n"
+        → IfOk result (λ o. o ≡ Some (reply.Ids all)) }
 {
     let Some(ids) = ids(alloc, text)? else {
         return Ok(None);
@@ -198,7 +203,8 @@ fn at_reply(key: Row, text: &[u8]) -> Option<Reply>
 fn seek_reply(alloc: Global, schema: &Schema, class: u32, index: u32, text: &[u8]) -> Told
     ensures found { (from : Place) (up : Bool) → IfOk result (λ o. IfSome o (IsPrintableReply schema.now (op.Seek class index from up))) }
     ensures exact_end { text.now ≡ codes "end\n" → IfOk result (λ o. o ≡ Some reply.End) }
-    ensures exact_at { (key : Listed Value) (id : ℕ) → IsTrue (values_hold schema.now (key_fields schema.now class index) key) → IsProperRow key → IsWide id
+    ensures exact_at { (key : Listed Value) (id : ℕ) → IsTrue (values_hold schema.now (key_fields schema.now class index) key)
+        → IsProperRow key → IsWide id
         → text.now ≡ row_text key ++ (codes " " ++ (decimal id ++ codes "\n")) → IfOk result (λ o. o ≡ Some (reply.At key id)) }
 {
     if is_word(text, b"end\n") {
@@ -220,7 +226,7 @@ fn count_reply(text: &[u8]) -> Option<Reply>
 
 /// The reply to the operation, which has no id yet if it is a `new`, where the text is one and the line feed. The cost grows with the text.
 pub fn reply(alloc: Global, schema: &Schema, op: &Op, text: &[u8]) -> Told
-    requires bare { without_made op.now ≡ op.now }
+    requires { without_made op.now ≡ op.now }
     ensures found { IfOk result (λ o. IfSome o (λ told. IsPrintableReply schema.now (with_made op.now told) told)) }
     ensures exact { (told : Answer) → IsSchema schema.now → IsPrintableReply schema.now (with_made op.now told) told
         → text.now ≡ reply_text schema.now op.now told ++ codes "\n" → IfOk result (λ o. o ≡ Some told) }

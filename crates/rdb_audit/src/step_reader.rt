@@ -57,12 +57,13 @@ fn spelled_step(alloc: Global, schema: &Schema, line: &[u8]) -> Result<Step, NoM
     Ok(Some((with_made(op, &reply), reply)))
 }
 
-/// The operation, which fits a transaction of this kind, and the reply of which this is the line. The cost grows with the line, and with the
-/// numbers of classes and of the class's indexes.
+/// The operation, which fits a transaction of this kind, and the reply of which this is the line. The cost grows with the line, and with
+/// the numbers of classes and of the class's indexes.
 pub fn step(alloc: Global, schema: &Schema, may: Kind, line: &[u8]) -> Result<Step, NoMemory>
     requires is_schema { IsSchema schema.now }
     ensures found { IfOk result (λ o. IfSome o (λ s. (line.now ≡ operation_line schema.now s) × IsPrintableStep schema.now may s)) }
-    ensures exact { (op : Asked) (told : Answer) → line.now ≡ operation_line schema.now (op, told) → IsPrintableStep schema.now may (op, told)
+    ensures exact { (op : Asked) (told : Answer) → line.now ≡ operation_line schema.now (op, told)
+        → IsPrintableStep schema.now may (op, told)
         → IfOk result (λ o. o ≡ Some (op, told)) }
 {
     let Some(step) = spelled_step(alloc, schema, line)? else {

@@ -24,7 +24,8 @@ pub type Found<'a, T> = Result<Option<(T, &'a [u8])>, NoMemory>;
 /// The row of a class in front, and what stands behind it. The cost grows with its text.
 pub fn row_at<'a>(alloc: Global, schema: &Schema, class: u32, text: &'a [u8]) -> Found<'a, Row>
     ensures found { IfOk result (λ o. IfSome o (λ r. IsProperRow r.0 × IsTrue (row_holds schema.now class r.0))) }
-    ensures exact { (row : Listed Value) (rest : Listed ℕ) → IsTrue (row_holds schema.now class row) → IsProperRow row → text.now ≡ row_text row ++ rest
+    ensures exact { (row : Listed Value) (rest : Listed ℕ) → IsTrue (row_holds schema.now class row) → IsProperRow row
+        → text.now ≡ row_text row ++ rest
         → IfOk result (λ o. IsSomeAnd o (λ r. (r.0 ≡ row) × (r.1.now ≡ rest))) }
 {
     printed_rows_are_spelled();
@@ -39,8 +40,10 @@ pub fn key_at<'a>(
     index: u32,
     text: &'a [u8],
 ) -> Found<'a, Row>
-    ensures found { IfOk result (λ o. IfSome o (λ r. IsProperRow r.0 × IsTrue (values_hold schema.now (key_fields schema.now class index) r.0))) }
-    ensures exact { (key : Listed Value) (rest : Listed ℕ) → IsTrue (values_hold schema.now (key_fields schema.now class index) key) → IsProperRow key
+    ensures found { IfOk result (λ o. IfSome o (λ r. IsProperRow r.0
+        × IsTrue (values_hold schema.now (key_fields schema.now class index) r.0))) }
+    ensures exact { (key : Listed Value) (rest : Listed ℕ) → IsTrue (values_hold schema.now (key_fields schema.now class index) key)
+        → IsProperRow key
         → text.now ≡ row_text key ++ rest → IfOk result (λ o. IsSomeAnd o (λ r. (r.0 ≡ key) × (r.1.now ≡ rest))) }
 {
     printed_keys_are_spelled();

@@ -1,5 +1,5 @@
-//! Judges a report: reads it, and asks whether its journal keeps the law of journals. It touches nothing but the text and the schema that it is
-//! lent, and the memory that it takes.
+//! Judges a report: reads it, and asks whether its journal keeps the law of journals. It touches nothing but the text and the schema that
+//! it is lent, and the memory that it takes.
 
 ghost use Rattle.std.specs.Prelude.{◌<◌, ◌^◌, ℕ, List as Listed, All, length, IfOk, IfErr};
 ghost use Rattle.rdb_schema.specs.declared.schema.Schema.{Schema as Declared};
@@ -75,10 +75,10 @@ fn journal_of(alloc: Global, schema: &Schema, report: &[u8]) -> Result<Entries, 
     }
 }
 
-/// Judges a report: how many entries of each kind it has, where every line is one of a report and its journal is legal; else its first bad line,
-/// as `read` names it, or else the first entry, from 1, that breaks the law of journals, and the first part of the law that it breaks. An
-/// abort's replies aren't judged, and neither are watches and polls. The cost grows with the report and its logarithm, and beyond that
-/// with what its operations cost on the plain database, each done once.
+/// Judges a report: how many entries of each kind it has, where every line is one of a report and its journal is legal; else its first
+/// bad line, as `read` names it, or else the first entry, from 1, that breaks the law of journals, and the first part of the law that it
+/// breaks. An abort's replies aren't judged, and neither are watches and polls. The cost grows with the report and its logarithm, and
+/// beyond that with what its operations cost on the plain database, each done once.
 pub fn audit(alloc: Global, schema: &Schema, report: &[u8]) -> Result<Counts, AuditFault>
     requires is_schema { IsSchema schema.now }
     requires short { length report.now < 2 ^ 32 }

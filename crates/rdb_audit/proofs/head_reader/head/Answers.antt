@@ -13,3 +13,6 @@ returns-in-Some-after-2-clause-exact c = λ e s. only_abort e c.in-Some-after-2.
         (c.in-Some-after-2.ensures.exact (decimal story.client ++ (codes " tx " ++ (decimal story.number ++ (codes " begun " ++ (decimal story.begun ++ (codes " at " ++ (decimal story.snapshot ++ (codes " " ++ (cause_text why ++ codes "\n"))))))))) (h.text ∙ abort_form story why))
         ∙ ap (λ (d : List (Op × Reply)). Some (entry.Abort (record { client = story.client; number = story.number; begun = story.begun; snapshot = story.snapshot; done = d }) why)) (sym h.bare))
     s
+
+pub returns-in_err-after-clause-exact : goal.returns-in_err-after-clause-exact
+returns-in_err-after-clause-exact c = λ e s. absurd (no_head c.args.line.now e s.text (λ r t. c.in_default.ensures.exact r t) (λ r t. c.in_default-after.ensures.exact r t) (λ r t. c.in_default-after-2.ensures.exact r t) (λ r t. c.in_default-after-3.ensures.exact r t) (λ r t. c.in_err-after.ensures.exact r t))

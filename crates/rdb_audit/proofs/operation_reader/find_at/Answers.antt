@@ -23,3 +23,6 @@ pub returns-clause-found : goal.returns-clause-found
 returns-clause-found c =
     let got = if_some c.in_ok-key.field-0 (c.in-Some-2.key, c.in-Some-2.rest) (λ p. IsProperRow p.0 × IsTrue (values_hold c.args.schema.now (key_fields c.args.schema.now c.in-Some.class c.in-Some.index) p.0)) c.in_ok-key.ensures.found c.in-Some-2.is in
     ((c.in-Some.ensures.found, got.0), refl)
+
+pub returns-in_default-clause-exact : goal.returns-in_default-clause-exact
+returns-in_default-clause-exact c = λ class index key rest is has held proper e. absurd (c.in_default.ensures.exact class index (row_text key ++ rest) is has e)

@@ -4,7 +4,7 @@ use Rattle.rdb_base.specs.declared.operation.Op.TheVariants as op
 use Rattle.rdb_literals.specs.Printed.{quoted, rect_text, row_text}
 use Rattle.rdb_journal.specs.Names.{class_name, index_path}
 use Rattle.rdb_journal.specs.Operations.{how_text, place_text}
-use Rattle.rdb_audit.proofs.OperationLemmas.{IsRead, IsReadPlain, either, only_new, only_get, only_put, only_del, only_find, only_seek, only_area, only_prefix, only_count, new_text, get_text, put_text, del_text, find_text, up_text, down_text, inside_text, overlaps_text, prefix_text, count_text, row_held, key_held, place_held, rect_held, text_held}
+use Rattle.rdb_audit.proofs.OperationLemmas.{IsRead, IsReadPlain, either, only_new, only_get, only_put, only_del, only_find, only_seek, only_area, only_prefix, only_count, new_text, get_text, put_text, del_text, find_text, up_text, down_text, inside_text, overlaps_text, prefix_text, count_text, row_held, key_held, place_held, rect_held, text_held, no_operation}
 use Rattle.rdb_audit.proofs.operation_reader.operation_at.Goals as goal
 
 pub returns-in-Some-clause-exact : goal.returns-in-Some-clause-exact
@@ -55,3 +55,6 @@ pub returns-in-Some-after-8-clause-exact : goal.returns-in-Some-after-8-clause-e
 returns-in-Some-after-8-clause-exact c = λ asked rest is printable fits e. only_count c.args.schema.now asked (32 ∷ rest) c.in-Some-after-8.rest.now
     (IsReadPlain c.args.schema.now c.args.text.now (32 ∷ rest) c.count_at.result) (sym e ∙ c.in-Some-after-8.ensures.found)
     (λ class p f t. c.count_at.ensures.exact class rest is p (c.in-Some-after-8.ensures.exact (class_name c.args.schema.now class ++ (32 ∷ rest)) (t ∙ count_text c.args.schema.now class (32 ∷ rest)))) printable fits e
+
+pub returns-in-None-clause-exact : goal.returns-in-None-clause-exact
+returns-in-None-clause-exact c = λ asked rest is printable fits e. absurd (no_operation c.args.schema.now asked c.args.text.now (32 ∷ rest) e (λ r t. c.in_default.ensures.exact r t) (λ r t. c.in_default-after.ensures.exact r t) (λ r t. c.in_default-after-2.ensures.exact r t) (λ r t. c.in_default-after-3.ensures.exact r t) (λ r t. c.in_default-after-4.ensures.exact r t) (λ r t. c.in_default-after-5.ensures.exact r t) (λ r t. c.in_default-after-6.ensures.exact r t) (λ r t. c.in_default-after-7.ensures.exact r t) (λ r t. c.in-None.ensures.exact r t))

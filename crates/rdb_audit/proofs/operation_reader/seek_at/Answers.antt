@@ -36,3 +36,9 @@ pub returns-clause-found : goal.returns-clause-found
 returns-clause-found c =
     let got = if_some c.in_ok-place.field-0 (c.in-Some-2.place, c.in-Some-2.rest) (λ p. IsPrintablePlace p.0) c.in_ok-place.ensures.found c.in-Some-2.is in
     ((c.in-Some.ensures.found, got), refl)
+
+pub returns-in_default-clause-up : goal.returns-in_default-clause-up
+returns-in_default-clause-up c = λ class index spot rest is has held printable ends e. absurd (c.in_default.ensures.up class index (place_text spot ++ rest) is has e)
+
+pub returns-in_default-clause-down : goal.returns-in_default-clause-down
+returns-in_default-clause-down c = λ class index spot rest is has held printable ends e. absurd (c.in_default.ensures.down class index (place_text spot ++ rest) is has e)

@@ -1,5 +1,7 @@
-use Rattle.std.proofs.Common.{◌≡◌, [], ◌∷◌, ◌++◌, ℕ, List, codes, Some, IfOk, sym, ap, ◌∙◌, subst}
+use Rattle.std.proofs.Common.{rules, ◌≡◌, [], ◌∷◌, ◌++◌, ℕ, List, codes, Some, IfOk, All, arith, sym, ap, ◌∙◌, subst}
 use Rattle.rdb_audit.proofs.LineLemmas.{on_true, on_false}
+use Rattle.std.proofs.lemmas.List.Elements.{All-push}
+use Rattle.rdb_audit.specs.Printed.{IsWide}
 use Rattle.rdb_audit.proofs.IdLemmas.{ids_none, ids_some, ids_are}
 use Rattle.rdb_audit.proofs.reply_reader.ids.Goals as goal
 
@@ -15,3 +17,7 @@ returns-clause-exact c = λ all wide e.
     ids_are c.args.text.now c.in-Some.first c.in-Some.rest.now all wide (on_false c.is_word.result c.if-is_word.false c.is_word.ensures.no) e (λ n r w d f. c.in-Some.ensures.exact n r w d f)
     (λ (whole : List ℕ). IfOk c.further_ids.result (λ o. o ≡ Some whole))
     (λ others w f. subst (λ (ids : List ℕ). IfOk c.further_ids.result (λ o. o ≡ Some (ids ++ others))) (c.in_ok-push.ensures.ok ∙ ap (λ (ids : List ℕ). ids ++ c.in-Some.first ∷ []) c.new-ids.ensures) (c.further_ids.ensures.exact others w f))
+
+pub further_ids-requires : goal.further_ids-requires
+further_ids-requires c =
+    subst (λ (ids : List ℕ). All IsWide ids) (sym (c.in_ok-push.ensures.ok ∙ ap (λ (ids : List ℕ). ids ++ c.in-Some.first ∷ []) c.new-ids.ensures)) (All-push IsWide [] c.in-Some.first (λ k d l. absurd (omega arith)) (search rules))

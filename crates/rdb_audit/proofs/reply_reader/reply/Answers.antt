@@ -15,7 +15,7 @@ returns-in-New-clause-exact c = λ told is printable e.
 
 pub returns-in-New-clause-found : goal.returns-in-New-clause-found
 returns-in-New-clause-found c =
-    subst (λ (a : Op). IfSome c.new_reply.result (λ told. IsPrintableReply c.args.schema.now (with_made a told) told)) (ap without_made (sym c.in-New.is) ∙ c.requires.bare) (c.new_reply.ensures.found c.in-New.row)
+    subst (λ (a : Op). IfSome c.new_reply.result (λ told. IsPrintableReply c.args.schema.now (with_made a told) told)) (ap without_made (sym c.in-New.is) ∙ c.requires) (c.new_reply.ensures.found c.in-New.row)
 
 pub returns-in-Get-clause-exact : goal.returns-in-Get-clause-exact
 returns-in-Get-clause-exact c = λ told is printable e.

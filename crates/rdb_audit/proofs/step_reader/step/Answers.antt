@@ -18,23 +18,23 @@ operation_line-written-requires c =
 
 pub returns-in_default-clause-exact : goal.returns-in_default-clause-exact
 returns-in_default-clause-exact c = λ op told e printable.
-    absurd (let none : ◌≡◌ {A = Option (Op × Reply)} None (Some (op, told)) = sym c.in_default.is ∙ c.in_ok-step.ensures.exact op told c.requires e (record { fits = fits_writing c.args.schema.now op c.args.may printable.fits; operation = printable.operation; told = printable.told }) in cc)
+    absurd (let none : ◌≡◌ {A = Option (Op × Reply)} None (Some (op, told)) = sym c.in_default.is ∙ c.in_ok-step.ensures.exact op told c.requires.is_schema e (record { fits = fits_writing c.args.schema.now op c.args.may printable.fits; operation = printable.operation; told = printable.told }) in cc)
 
 pub returns-then-not-fits-clause-exact : goal.returns-then-not-fits-clause-exact
 returns-then-not-fits-clause-exact c = λ op told e printable.
-    let here : Some c.in-Some.step ≡ Some (op, told) = sym c.in-Some.is ∙ c.in_ok-step.ensures.exact op told c.requires e (record { fits = fits_writing c.args.schema.now op c.args.may printable.fits; operation = printable.operation; told = printable.told }) in
+    let here : Some c.in-Some.step ≡ Some (op, told) = sym c.in-Some.is ∙ c.in_ok-step.ensures.exact op told c.requires.is_schema e (record { fits = fits_writing c.args.schema.now op c.args.may printable.fits; operation = printable.operation; told = printable.told }) in
     let same : ◌≡◌ {A = Op × Reply} c.in-Some.step (op, told) = cc in
     absurd (false≢true (sym c.if-not-fits.true ∙ c.fits.ensures ∙ ap (λ (s : Op × Reply). fits c.args.schema.now s.0 c.args.may) same ∙ printable.fits))
 
 pub returns-then-not-is_word-clause-exact : goal.returns-then-not-is_word-clause-exact
 returns-then-not-is_word-clause-exact c = λ op told e printable.
-    let here : Some c.in-Some.step ≡ Some (op, told) = sym c.in-Some.is ∙ c.in_ok-step.ensures.exact op told c.requires e (record { fits = fits_writing c.args.schema.now op c.args.may printable.fits; operation = printable.operation; told = printable.told }) in
+    let here : Some c.in-Some.step ≡ Some (op, told) = sym c.in-Some.is ∙ c.in_ok-step.ensures.exact op told c.requires.is_schema e (record { fits = fits_writing c.args.schema.now op c.args.may printable.fits; operation = printable.operation; told = printable.told }) in
     let same : ◌≡◌ {A = Op × Reply} c.in-Some.step (op, told) = cc in
     absurd (on_false c.is_word.result c.if-not-is_word.true c.is_word.ensures.no (e ∙ ap (operation_line c.args.schema.now) (sym same) ∙ sym c.in_ok-written.ensures ∙ sym c.as_str.ensures ∙ sym c.as_bytes.ensures))
 
 pub returns-clause-exact : goal.returns-clause-exact
 returns-clause-exact c = λ op told e printable.
-    sym c.in-Some.is ∙ c.in_ok-step.ensures.exact op told c.requires e (record { fits = fits_writing c.args.schema.now op c.args.may printable.fits; operation = printable.operation; told = printable.told })
+    sym c.in-Some.is ∙ c.in_ok-step.ensures.exact op told c.requires.is_schema e (record { fits = fits_writing c.args.schema.now op c.args.may printable.fits; operation = printable.operation; told = printable.told })
 
 pub returns-clause-found : goal.returns-clause-found
 returns-clause-found c =
