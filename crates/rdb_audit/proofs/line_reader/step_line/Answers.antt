@@ -1,4 +1,5 @@
 use Rattle.std.proofs.Common.{◌≡◌, Option, Some, None, sym, ap, ◌∙◌, subst}
+use Rattle.std.specs.Option.{option_map}
 use Rattle.rdb_literals.proofs.ListLemmas.{if_some}
 use Rattle.rdb_base.specs.declared.identity.Kind.{Kind}
 use Rattle.rdb_base.specs.declared.operation.Op.{Op}
@@ -14,9 +15,8 @@ returns-in_default-2-clause-exact c = λ op told may open_is printable e.
 
 pub returns-clause-exact : goal.returns-clause-exact
 returns-clause-exact c = λ op told may open_is printable e.
-    let here : Some (c.in-Some-2.op, c.in-Some-2.reply) ≡ Some (op, told) = sym c.in-Some-2.is ∙ (let may_is : c.in-Some.kind ≡ may = (let both : Some c.in-Some.kind ≡ Some may = c.in-Some.ensures ∙ open_is in cc) in c.in_ok-op.ensures.exact op told e (subst (λ (k : Kind). IsPrintableStep c.args.schema.now k (op, told)) (sym may_is) printable)) in
-    let same : ◌≡◌ {A = Op × Reply} (c.in-Some-2.op, c.in-Some-2.reply) (op, told) = cc in
-    ap (λ (s : Op × Reply). Some (says.Step s.0 s.1)) same
+    let here : ◌≡◌ {A = Option (Op × Reply)} (Some (c.in-Some-2.op, c.in-Some-2.reply)) (Some (op, told)) = sym c.in-Some-2.is ∙ (let may_is : c.in-Some.kind ≡ may = (let both : Some c.in-Some.kind ≡ Some may = c.in-Some.ensures ∙ open_is in cc) in c.in_ok-op.ensures.exact op told e (subst (λ (k : Kind). IsPrintableStep c.args.schema.now k (op, told)) (sym may_is) printable)) in
+    ap (λ (o : Option (Op × Reply)). option_map (λ (s : Op × Reply). says.Step s.0 s.1) o) here
 
 pub returns-clause-found : goal.returns-clause-found
 returns-clause-found c =
