@@ -1,10 +1,9 @@
 -- The operations of a report's entries fit the schema and name what it has, and no story has more of them than the report has lines.
-use Rattle.std.proofs.Common.{◌≡◌, ℕ, ◌+◌, ◌<◌, ◌≤◌, ◌^◌, Bool, true, false, cond, eqb, List, [], ◌∷◌, ◌++◌, length, get_or, All, Option, Some, None, IfSome, refl, sym, ap, ◌∙◌, subst, arith, length-append}
+use Rattle.std.proofs.Common.{◌≡◌, ℕ, ◌+◌, ◌<◌, ◌≤◌, ◌^◌, Bool, true, false, cond, eqb, List, [], ◌∷◌, ◌++◌, length, get_or, All, Option, Some, None, IfSome, sym, ap, subst, arith, length-append}
 use Rattle.std.specs.List.{onto_first}
 use Rattle.std.specs.Option.{option_to_list, option_map, option_and_then}
 use Rattle.std.proofs.lemmas.List.{append-nil}
 use Rattle.std.proofs.lemmas.List.Elements.{All-push}
-use Rattle.std.proofs.lemmas.Bool.{cond-true, cond-false}
 use Rattle.rdb_base.specs.declared.identity.Kind.{Kind}
 use Rattle.rdb_base.specs.declared.identity.Kind.TheVariants as kind
 use Rattle.rdb_base.specs.declared.operation.Op.{Op}
@@ -14,7 +13,7 @@ use Rattle.rdb_base.specs.declared.journal.Entry.{Entry}
 use Rattle.rdb_base.specs.declared.journal.Entry.TheVariants as entry
 use Rattle.rdb_schema.specs.declared.schema.Schema.{Schema}
 use Rattle.rdb_model.specs.Fits.{Fits, AllFit}
-use Rattle.rdb_model.specs.FirstFault.{FitsStory, FitsEntry}
+use Rattle.rdb_model.specs.FirstFault.{FitsEntry}
 use Rattle.rdb_journal.specs.Lines.{steps_of, StepNamesExist, NamesExist}
 use Rattle.rdb_audit.specs.declared.progress.Progress.{Progress}
 use Rattle.rdb_audit.specs.declared.progress.ReportLine.{ReportLine}

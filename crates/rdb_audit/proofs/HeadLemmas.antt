@@ -1,5 +1,5 @@
 -- The first lines of entries, put together from what was read.
-use Rattle.std.proofs.Common.{◌≡◌, ℕ, List, [], ◌++◌, get_or, if◌then◌else◌, codes, decimal, sym, ap, ◌∙◌, append_assoc, arith}
+use Rattle.std.proofs.Common.{◌≡◌, ℕ, List, [], ◌++◌, get_or, if◌then◌else◌, codes, decimal, ap, ◌∙◌, append_assoc, arith}
 use Rattle.rdb_base.specs.declared.journal.Story.{Story}
 use Rattle.rdb_base.specs.declared.journal.Entry.{Entry}
 use Rattle.rdb_base.specs.declared.journal.Cause.{Cause}

@@ -2,7 +2,6 @@
 use Rattle.std.proofs.Common.{◌≡◌, ◌≢◌, ℕ, ◌+◌, Bool, true, false, List, ◌++◌, get_or, codes, decimal, refl, sym, ap, ◌∙◌, arith}
 use Rattle.std.specs.Bool.{OnTrue, OnFalse}
 use Rattle.std.proofs.lemmas.Bool.{false≢true}
-use Rattle.rdb_base.specs.declared.identity.Kind.{Kind}
 use Rattle.rdb_base.specs.declared.operation.Op.{Op}
 use Rattle.rdb_base.specs.declared.operation.Reply.{Reply}
 use Rattle.rdb_base.specs.declared.journal.Entry.{Entry}
@@ -113,6 +112,7 @@ last_says schema p line P said t last totals_ = by_said said t
   where
     unlast : (l : List ℕ) → line ≡ l → is_last l ≡ false → ⊥
     unlast l e none = false≢true (sym none ∙ ap is_last (sym e) ∙ last)
+
     by_said : (s : ReportLine) → line ≡ text_of schema p s → P s
     by_said (says.Entry e) t = absurd (unlast (head_line e) t (head_unlast e))
     by_said (says.Step operation told) t = absurd (unlast (operation_line schema (operation, told)) t (step_unlast schema operation told))

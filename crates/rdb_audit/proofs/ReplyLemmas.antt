@@ -1,5 +1,5 @@
 -- Replies, by the kind of the operation that got them.
-use Rattle.std.proofs.Common.{◌≡◌, ℕ, Bool, List, ◌++◌, codes, decimal, All, Option, Some, None, Result, Ok, Err, IfOk, IfSome, IsTrue, refl, sym, ap, ◌∙◌, subst}
+use Rattle.std.proofs.Common.{◌≡◌, ℕ, Bool, List, ◌++◌, codes, decimal, All, Option, Some, None, Result, Ok, Err, IfOk, IfSome, IsTrue, sym, ◌∙◌, subst}
 use Rattle.rdb_base.specs.declared.value.Value.{Value}
 use Rattle.rdb_base.specs.declared.value.Rect.{Rect}
 use Rattle.rdb_base.specs.declared.operation.How.{How}
@@ -16,7 +16,7 @@ use Rattle.rdb_literals.specs.Printed.{row_text}
 use Rattle.rdb_audit.proofs.Joined.{three, four}
 use Rattle.rdb_journal.specs.Names.{index_name}
 use Rattle.rdb_journal.specs.Replies.{ids_text, reply_text}
-use Rattle.rdb_audit.specs.Printed.{IsWide, IsPrintableRow, IsPrintableDuplicate, IsPrintableReply, with_made, without_made}
+use Rattle.rdb_audit.specs.Printed.{IsWide, IsPrintableRow, IsPrintableDuplicate, IsPrintableReply, with_made}
 
 -- the reply is read, if a text is one
 abbrev pub IsTold : Schema → Op → List ℕ → (Reply → Type 0) → Reply → Type 0

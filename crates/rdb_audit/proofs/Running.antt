@@ -8,7 +8,7 @@ use Rattle.rdb_schema.specs.declared.schema.Schema.{Schema}
 use Rattle.rdb_audit.specs.declared.progress.Progress.{Progress}
 use Rattle.rdb_audit.specs.declared.progress.ReportLine.{ReportLine}
 use Rattle.rdb_audit.specs.declared.progress.Section.TheVariants as section
-use Rattle.rdb_audit.specs.Grammar.{lines, start, entries, text_of, MayStand, after, IsLine, Runs, IsReport, IsWrong, IsFirstBad}
+use Rattle.rdb_audit.specs.Grammar.{lines, start, entries, text_of, MayStand, after, IsLine, Runs, IsReport, IsFirstBad}
 
 -- every line that may stand here leads there, or none may
 abbrev pub IsOnlyLine : Schema → Progress → List ℕ → Bool → Progress → Type 0

@@ -1,8 +1,8 @@
 -- The first line of a text, which keeps its line feed.
-use Rattle.std.proofs.Common.{◌≡◌, ℕ, zero, suc, ◌+◌, ◌<◌, Bool, true, false, cond, eqb, ltb, List, [], ◌∷◌, length, take, drop, get_or, Option, Some, None, refl, sym, ap, ◌∙◌, subst, arith, add-one}
+use Rattle.std.proofs.Common.{◌≡◌, ℕ, zero, suc, ◌+◌, ◌<◌, Bool, true, false, cond, eqb, ltb, List, [], ◌∷◌, length, take, drop, get_or, Some, None, refl, sym, ap, ◌∙◌, subst, arith, add-one}
 use Rattle.std.specs.Prelude.{position}
-use Rattle.std.specs.List.{position_or_len, prefix_len, onto_first}
-use Rattle.std.proofs.lemmas.Bool.{cond-true, cond-false, eqb-true, ltb-true, lt-ltb, false≢true}
+use Rattle.std.specs.List.{position_or_len, onto_first}
+use Rattle.std.proofs.lemmas.Bool.{cond-true, cond-false, eqb-true, ltb-true, false≢true}
 use Rattle.std.proofs.lemmas.List.Sums.{fails_before_first, passes_at_first}
 use Rattle.rdb_literals.proofs.SpellingLemmas.{none_passes}
 use Rattle.rdb_audit.specs.Grammar.{lines}

@@ -10,7 +10,6 @@ use Rattle.rdb_base.specs.declared.operation.Reply.{Reply}
 use Rattle.rdb_base.specs.declared.journal.Story.{Story}
 use Rattle.rdb_base.specs.declared.journal.Entry.{Entry}
 use Rattle.rdb_base.specs.declared.journal.Entry.TheVariants as entry
-use Rattle.rdb_audit.specs.declared.progress.Section.{Section}
 use Rattle.rdb_audit.specs.declared.progress.Section.TheVariants as section
 use Rattle.rdb_audit.specs.declared.progress.ReportLine.{ReportLine}
 use Rattle.rdb_audit.specs.declared.progress.ReportLine.TheVariants as says

@@ -94,7 +94,7 @@ fn poll(schema: &Schema, text: &[u8]) -> Option<Note>
     ensures exact_event { (class event commit id : ℕ) → IsSchema schema.now → HasEventPath schema.now class event → IsWide commit
         → IsWide id
         → text.now ≡ event_path schema.now class event
-            ++ (codes " -> commit " ++ (decimal commit ++ (codes " id " ++ (decimal id ++ codes "\n"))))
+        ++ (codes " -> commit " ++ (decimal commit ++ (codes " id " ++ (decimal id ++ codes "\n"))))
         → result ≡ Some (note.Event class event commit id) }
     ensures exact_none { (class event at : ℕ) → IsSchema schema.now → HasEventPath schema.now class event → IsWide at
         → text.now ≡ event_path schema.now class event ++ (codes " -> none at " ++ (decimal at ++ codes "\n"))

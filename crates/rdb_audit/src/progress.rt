@@ -111,8 +111,12 @@ impl Progress {
 
     /// Puts the last entry to those before it: no further operation follows.
     pub fn close(&mut self) -> Result<(), NoMemory>
-        ensures { OnOk result (self.new ≡ record { journal = entries self.old; last = None; clients = self.old.clients;
-            section = self.old.section }) }
+        ensures { OnOk result (self.new ≡ record {
+          journal = entries self.old;
+          last = None;
+          clients = self.old.clients;
+          section = self.old.section;
+        }) }
     {
         if let Some(entry) = self.last.take() {
             self.journal.push(entry)?;

@@ -1,7 +1,6 @@
-use Rattle.std.proofs.Common.{rules, ◌≡◌, ℕ, List, ◌++◌, codes, decimal, refl, sym, ap, ◌∙◌}
-use Rattle.rdb_journal.specs.Names.{event_path}
+use Rattle.std.proofs.Common.{◌++◌, codes, decimal, ◌∙◌}
 use Rattle.rdb_journal.specs.Endings.{end_text}
-use Rattle.rdb_audit.proofs.TextForms.{gone_form, client_form, watch_form, event_form, none_form, end_found}
+use Rattle.rdb_audit.proofs.TextForms.{client_form, end_found}
 use Rattle.rdb_audit.proofs.client_reader.client.Goals as goal
 
 pub returns-in_err-after-clause-exact : goal.returns-in_err-after-clause-exact

@@ -1,4 +1,3 @@
-use Rattle.std.proofs.Common.{rules, ◌≡◌, ℕ, ◌∷◌, List, ◌++◌, get_or, codes, decimal, Option, Some, None, refl, sym, ap, ◌∙◌, subst, arith}
 use Rattle.rdb_audit.proofs.LineLemmas.{on_false}
 use Rattle.rdb_audit.proofs.TextForms.{no_end}
 use Rattle.rdb_audit.proofs.client_reader.end.Goals as goal

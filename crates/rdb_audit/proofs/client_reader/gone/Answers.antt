@@ -1,7 +1,5 @@
-use Rattle.std.proofs.Common.{rules, ◌≡◌, ℕ, List, ◌++◌, codes, decimal, refl, sym, ap, ◌∙◌}
-use Rattle.rdb_journal.specs.Names.{event_path}
-use Rattle.rdb_journal.specs.Endings.{end_text}
-use Rattle.rdb_audit.proofs.TextForms.{gone_form, client_form, watch_form, event_form, none_form}
+use Rattle.std.proofs.Common.{rules, ℕ, List, ◌++◌, codes, decimal, sym, ap, ◌∙◌}
+use Rattle.rdb_audit.proofs.TextForms.{gone_form}
 use Rattle.rdb_audit.proofs.client_reader.gone.Goals as goal
 
 pub returns-clause-found : goal.returns-clause-found

@@ -1,6 +1,5 @@
-use Rattle.std.proofs.Common.{rules, ◌≡◌, ℕ, ◌∷◌, List, ◌++◌, get_or, codes, decimal, Option, Some, None, refl, sym, ap, ◌∙◌, subst, arith}
+use Rattle.std.proofs.Common.{◌≡◌, ◌++◌, codes, decimal, Some, sym, ◌∙◌}
 use Rattle.rdb_journal.specs.declared.endings.Note.{Note}
-use Rattle.rdb_journal.specs.declared.endings.Note.TheVariants as note
 use Rattle.rdb_journal.specs.Names.{event_path}
 use Rattle.rdb_audit.proofs.TextForms.{watch_form, event_form, none_form, watch_only, poll_only}
 use Rattle.rdb_journal.specs.Endings.{note_line}

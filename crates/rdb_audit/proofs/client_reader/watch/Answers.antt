@@ -1,8 +1,7 @@
-use Rattle.std.proofs.Common.{rules, ◌≡◌, ℕ, ◌∷◌, List, ◌++◌, get_or, codes, decimal, Option, Some, None, refl, sym, ap, ◌∙◌, subst, arith}
-use Rattle.rdb_journal.specs.declared.endings.Note.{Note}
+use Rattle.std.proofs.Common.{rules, ◌≡◌, ℕ, List, ◌++◌, codes, decimal, Option, Some, None, sym, ap, ◌∙◌}
 use Rattle.rdb_journal.specs.declared.endings.Note.TheVariants as note
 use Rattle.rdb_journal.specs.Names.{event_path}
-use Rattle.rdb_audit.proofs.TextForms.{watch_form, event_form, none_form, watch_only, poll_only}
+use Rattle.rdb_audit.proofs.TextForms.{watch_form}
 use Rattle.rdb_audit.proofs.client_reader.watch.Goals as goal
 
 pub returns-clause-found : goal.returns-clause-found

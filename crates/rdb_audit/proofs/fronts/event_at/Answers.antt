@@ -1,4 +1,4 @@
-use Rattle.std.proofs.Common.{◌≡◌, ℕ, List, ◌∷◌, ◌++◌, Option, Some, None, refl, sym, ap, ◌∙◌}
+use Rattle.std.proofs.Common.{◌≡◌, ℕ, List, ◌++◌, Option, Some, None, refl, sym, ap, ◌∙◌}
 use Rattle.rdb_journal.specs.Names.{event_name}
 use Rattle.rdb_audit.specs.Printed.{event_named}
 use Rattle.rdb_audit.proofs.NameLemmas.{event_found, has_event_name, event_without}

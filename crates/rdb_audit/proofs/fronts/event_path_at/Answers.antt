@@ -1,4 +1,4 @@
-use Rattle.std.proofs.Common.{rules, ◌≡◌, ℕ, ◌∷◌, List, ◌++◌, get_or, codes, decimal, Option, Some, None, refl, sym, ap, ◌∙◌, subst, arith}
+use Rattle.std.proofs.Common.{ℕ, ◌∷◌, ◌++◌, sym, ap, ◌∙◌, subst}
 use Rattle.rdb_journal.specs.Names.{class_name, event_name}
 use Rattle.rdb_audit.specs.Printed.{HasEventName}
 use Rattle.rdb_audit.proofs.NameLemmas.{path_form}

@@ -1,4 +1,4 @@
-use Rattle.std.proofs.Common.{◌≡◌, ℕ, List, ◌∷◌, ◌++◌, Option, Some, None, refl, sym, ap, ◌∙◌}
+use Rattle.std.proofs.Common.{◌≡◌, ℕ, List, ◌++◌, Option, Some, None, refl, sym, ap, ◌∙◌}
 use Rattle.rdb_journal.specs.Names.{index_name}
 use Rattle.rdb_audit.specs.Printed.{index_named}
 use Rattle.rdb_audit.proofs.NameLemmas.{index_found, has_index_name, index_without}

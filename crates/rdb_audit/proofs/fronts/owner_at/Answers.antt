@@ -1,4 +1,4 @@
-use Rattle.std.proofs.Common.{◌≡◌, ℕ, List, ◌∷◌, ◌++◌, codes, Option, Some, None, refl, sym, ap, ◌∙◌}
+use Rattle.std.proofs.Common.{◌≡◌, ℕ, ◌++◌, Option, Some, None, refl, sym, ap, ◌∙◌}
 use Rattle.rdb_journal.specs.Names.{class_name}
 use Rattle.rdb_audit.specs.Printed.{class_named}
 use Rattle.rdb_audit.proofs.NameLemmas.{class_found, has_class_name, class_without}

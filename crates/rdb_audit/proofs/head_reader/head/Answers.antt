@@ -10,8 +10,8 @@ use Rattle.rdb_audit.proofs.head_reader.head.Goals as goal
 pub returns-in-Some-after-2-clause-exact : goal.returns-in-Some-after-2-clause-exact
 returns-in-Some-after-2-clause-exact c = λ e s. only_abort e c.in-Some-after-2.rest.now (λ a. IsHead c.args.line.now a → c.abort.result ≡ Some a) (sym s.text ∙ c.in-Some-after-2.ensures.found)
     (λ story why h. c.abort.ensures.exact story.client story.number story.begun story.snapshot why h.printable.0.client h.printable.0.number h.printable.0.begun h.printable.0.snapshot h.printable.1
-        (c.in-Some-after-2.ensures.exact (decimal story.client ++ (codes " tx " ++ (decimal story.number ++ (codes " begun " ++ (decimal story.begun ++ (codes " at " ++ (decimal story.snapshot ++ (codes " " ++ (cause_text why ++ codes "\n"))))))))) (h.text ∙ abort_form story why))
-        ∙ ap (λ (d : List (Op × Reply)). Some (entry.Abort (record { client = story.client; number = story.number; begun = story.begun; snapshot = story.snapshot; done = d }) why)) (sym h.bare))
+    (c.in-Some-after-2.ensures.exact (decimal story.client ++ (codes " tx " ++ (decimal story.number ++ (codes " begun " ++ (decimal story.begun ++ (codes " at " ++ (decimal story.snapshot ++ (codes " " ++ (cause_text why ++ codes "\n"))))))))) (h.text ∙ abort_form story why))
+    ∙ ap (λ (d : List (Op × Reply)). Some (entry.Abort (record { client = story.client; number = story.number; begun = story.begun; snapshot = story.snapshot; done = d }) why)) (sym h.bare))
     s
 
 pub returns-in_err-after-clause-exact : goal.returns-in_err-after-clause-exact

@@ -1,4 +1,4 @@
-use Rattle.std.proofs.Common.{◌≡◌, Option, Some, IfOk, sym, ◌∙◌}
+use Rattle.std.proofs.Common.{◌≡◌, Some, IfOk, sym, ◌∙◌}
 use Rattle.rdb_audit.specs.declared.progress.ReportLine.{ReportLine}
 use Rattle.rdb_audit.specs.Grammar.{text_of, MayStand}
 use Rattle.rdb_audit.proofs.LineLemmas.{on_true, on_false, indented_says, client_says, other_says}

@@ -1,4 +1,4 @@
-use Rattle.std.proofs.Common.{◌≡◌, ℕ, true, false, ◌∷◌, List, ◌++◌, codes, decimal, Option, Some, None, IfOk, IsSomeAnd, IsTrue, refl, sym, ap, ◌∙◌, subst, arith}
+use Rattle.std.proofs.Common.{◌++◌, codes}
 use Rattle.rdb_base.specs.declared.operation.Op.TheVariants as op
 use Rattle.rdb_literals.specs.Printed.{rect_text}
 use Rattle.rdb_audit.proofs.operation_reader.area_at.Goals as goal

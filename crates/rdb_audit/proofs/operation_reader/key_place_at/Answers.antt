@@ -1,11 +1,10 @@
-use Rattle.std.proofs.Common.{◌≡◌, ℕ, true, false, List, ◌++◌, codes, decimal, Some, IsSomeAnd, IsTrue, refl, sym, ap, ◌∙◌, subst}
+use Rattle.std.proofs.Common.{◌≡◌, List, ◌++◌, codes, decimal, IsSomeAnd, IsTrue, subst}
 use Rattle.rdb_literals.proofs.ListLemmas.{at_some, at_none, if_some}
-use Rattle.rdb_schema.specs.Values.{row_holds, values_hold}
+use Rattle.rdb_schema.specs.Values.{values_hold}
 use Rattle.rdb_schema.specs.Indexes.{key_fields}
 use Rattle.rdb_schema.specs.Proper.{IsProperRow}
 use Rattle.rdb_base.specs.declared.value.Value.{Value}
 use Rattle.rdb_base.specs.declared.operation.Place.TheVariants as place
-use Rattle.rdb_literals.specs.Printed.{row_text}
 use Rattle.rdb_audit.proofs.operation_reader.key_place_at.Goals as goal
 
 pub returns-in_default-clause-exact : goal.returns-in_default-clause-exact

@@ -1,5 +1,4 @@
-use Rattle.std.proofs.Common.{◌≡◌, Bool, true, false, ◌∷◌, ◌++◌, codes, decimal, refl, sym, ◌∙◌}
-use Rattle.rdb_base.specs.declared.identity.Kind.TheVariants as kind
+use Rattle.std.proofs.Common.{Bool, true, false, ◌∷◌, ◌++◌, codes, decimal, refl, sym, ◌∙◌}
 use Rattle.rdb_base.specs.declared.operation.Op.TheVariants as op
 use Rattle.rdb_literals.specs.Printed.{quoted, rect_text, row_text}
 use Rattle.rdb_journal.specs.Names.{class_name, index_path}

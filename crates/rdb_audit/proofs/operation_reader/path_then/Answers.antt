@@ -1,4 +1,3 @@
-use Rattle.std.proofs.Common.{◌≡◌, ℕ, true, false, ◌∷◌, List, ◌++◌, codes, decimal, Option, Some, None, IfOk, IsSomeAnd, IsTrue, refl, sym, ap, ◌∙◌, subst, arith}
 use Rattle.rdb_audit.proofs.operation_reader.path_then.Goals as goal
 
 pub returns-in_err-class-clause-exact : goal.returns-in_err-class-clause-exact

@@ -1,4 +1,4 @@
-use Rattle.std.proofs.Common.{◌≡◌, ℕ, true, false, ◌∷◌, List, ◌++◌, codes, decimal, Option, Some, None, IfOk, IsSomeAnd, IsTrue, refl, sym, ap, ◌∙◌, subst, arith}
+use Rattle.std.proofs.Common.{◌≡◌, ◌++◌, IfOk, IsSomeAnd, IsTrue, ◌∙◌}
 use Rattle.rdb_model.specs.Fits.{fits_place}
 use Rattle.rdb_journal.specs.Operations.{place_text}
 use Rattle.rdb_audit.specs.Printed.{IsPrintablePlace}

@@ -1,10 +1,6 @@
-use Rattle.std.proofs.Common.{◌≡◌, ℕ, true, false, List, ◌++◌, codes, decimal, Some, IsTrue, refl, sym, ap, ◌∙◌, subst}
+use Rattle.std.proofs.Common.{◌≡◌, ◌++◌, refl}
 use Rattle.rdb_literals.proofs.ListLemmas.{at_some, at_none, if_some}
-use Rattle.rdb_schema.specs.Values.{row_holds, values_hold}
-use Rattle.rdb_schema.specs.Indexes.{key_fields}
-use Rattle.rdb_schema.specs.Proper.{IsProperRow}
 use Rattle.rdb_base.specs.declared.operation.Op.TheVariants as op
-use Rattle.rdb_base.specs.declared.operation.Place.TheVariants as place
 use Rattle.std.specs.Str.{IsUtf8}
 use Rattle.rdb_literals.specs.Printed.{quoted}
 use Rattle.rdb_audit.proofs.operation_reader.prefix_at.Goals as goal

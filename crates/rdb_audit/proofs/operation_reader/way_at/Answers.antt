@@ -1,4 +1,4 @@
-use Rattle.std.proofs.Common.{◌≡◌, ℕ, true, false, ◌∷◌, List, ◌++◌, codes, decimal, Option, Some, None, IfOk, IsSomeAnd, IsTrue, refl, sym, ap, ◌∙◌, subst, arith}
+use Rattle.std.proofs.Common.{◌++◌, codes}
 use Rattle.rdb_journal.specs.Operations.{how_text}
 use Rattle.rdb_audit.proofs.operation_reader.way_at.Goals as goal
 

@@ -1,4 +1,4 @@
-use Rattle.std.proofs.Common.{◌∷◌, sym, ap, ◌∙◌}
+use Rattle.std.proofs.Common.{◌∷◌, sym, ◌∙◌}
 use Rattle.rdb_audit.specs.Grammar.{lines}
 use Rattle.rdb_audit.proofs.TextLines.{first_line, only_line, no_lines, some_bytes}
 use Rattle.rdb_audit.proofs.reader.next_line.Goals as goal

@@ -1,4 +1,4 @@
-use Rattle.std.proofs.Common.{◌≡◌, true, false, refl, sym, ap, ◌∙◌, subst, arith}
+use Rattle.std.proofs.Common.{true, false, sym, ap, ◌∙◌, subst, arith}
 use Rattle.rdb_audit.specs.declared.progress.Progress.{Progress}
 use Rattle.rdb_audit.specs.Grammar.{lines, Runs, IsReport}
 use Rattle.rdb_audit.proofs.Fitting.{report_fits, report_names}

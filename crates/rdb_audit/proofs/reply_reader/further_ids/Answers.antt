@@ -1,4 +1,4 @@
-use Rattle.std.proofs.Common.{rules, ◌≡◌, ◌++◌, Some, refl, sym, ap, ◌∙◌}
+use Rattle.std.proofs.Common.{rules, ◌++◌, Some, refl, ap}
 use Rattle.rdb_audit.proofs.LineLemmas.{on_false}
 use Rattle.std.proofs.lemmas.List.Elements.{All-push}
 use Rattle.rdb_audit.specs.Printed.{IsWide}

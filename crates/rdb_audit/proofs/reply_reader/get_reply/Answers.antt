@@ -1,10 +1,8 @@
-use Rattle.std.proofs.Common.{◌≡◌, ℕ, List, ◌++◌, codes, decimal, All, Option, Some, None, IfSome, IsSomeAnd, IsTrue, refl, sym, ap, ◌∙◌, subst}
-use Rattle.rdb_literals.proofs.ListLemmas.{at_some, at_none, if_some}
-use Rattle.rdb_base.specs.declared.operation.Op.TheVariants as op
-use Rattle.rdb_base.specs.declared.operation.Reply.{Reply}
+use Rattle.std.proofs.Common.{◌≡◌, List, Option, Some, None, sym, ap, ◌∙◌}
+use Rattle.rdb_literals.proofs.ListLemmas.{if_some}
 use Rattle.rdb_base.specs.declared.operation.Reply.TheVariants as reply
 use Rattle.rdb_base.specs.declared.value.Value.{Value}
-use Rattle.rdb_audit.specs.Printed.{IsPrintableRow, IsPrintableReply}
+use Rattle.rdb_audit.specs.Printed.{IsPrintableRow}
 use Rattle.rdb_audit.proofs.reply_reader.get_reply.Goals as goal
 
 pub returns-in_default-clause-exact_row : goal.returns-in_default-clause-exact_row

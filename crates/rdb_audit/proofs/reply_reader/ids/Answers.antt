@@ -1,4 +1,4 @@
-use Rattle.std.proofs.Common.{rules, ◌≡◌, [], ◌∷◌, ◌++◌, ℕ, List, codes, Some, IfOk, All, arith, sym, ap, ◌∙◌, subst}
+use Rattle.std.proofs.Common.{rules, ◌≡◌, [], ◌∷◌, ◌++◌, ℕ, List, Some, IfOk, All, arith, sym, ap, ◌∙◌, subst}
 use Rattle.rdb_audit.proofs.LineLemmas.{on_true, on_false}
 use Rattle.std.proofs.lemmas.List.Elements.{All-push}
 use Rattle.rdb_audit.specs.Printed.{IsWide}

@@ -1,7 +1,5 @@
-use Rattle.std.proofs.Common.{◌≡◌, ℕ, List, ◌++◌, codes, decimal, All, Option, Some, None, IfSome, IsSomeAnd, IsTrue, refl, sym, ap, ◌∙◌, subst}
-use Rattle.rdb_literals.proofs.ListLemmas.{at_some, at_none, if_some}
-use Rattle.rdb_base.specs.declared.operation.Op.TheVariants as op
-use Rattle.rdb_base.specs.declared.operation.Reply.{Reply}
+use Rattle.std.proofs.Common.{◌≡◌, ℕ, List, All, Option, Some, None, refl, sym, ap, ◌∙◌}
+use Rattle.rdb_literals.proofs.ListLemmas.{if_some}
 use Rattle.rdb_base.specs.declared.operation.Reply.TheVariants as reply
 use Rattle.rdb_audit.specs.Printed.{IsWide}
 use Rattle.rdb_audit.proofs.reply_reader.ids_reply.Goals as goal

@@ -1,4 +1,4 @@
-use Rattle.std.proofs.Common.{◌≡◌, ℕ, true, false, ◌∷◌, List, ◌++◌, codes, decimal, Option, Some, None, IfOk, IsSomeAnd, IsTrue, refl, sym, ap, ◌∙◌, subst, arith}
+use Rattle.std.proofs.Common.{◌++◌, codes, decimal, Some}
 use Rattle.rdb_base.specs.declared.operation.Reply.TheVariants as reply
 use Rattle.rdb_journal.specs.Names.{index_name}
 use Rattle.rdb_audit.proofs.reply_reader.new_reply.Goals as goal

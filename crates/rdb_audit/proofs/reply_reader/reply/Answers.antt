@@ -1,4 +1,4 @@
-use Rattle.std.proofs.Common.{◌≡◌, ◌++◌, codes, Option, Some, IfOk, IfSome, sym, ap, ◌∙◌, subst}
+use Rattle.std.proofs.Common.{◌≡◌, ◌++◌, codes, Some, IfOk, IfSome, sym, ap, ◌∙◌, subst}
 use Rattle.rdb_base.specs.declared.operation.Op.{Op}
 use Rattle.rdb_base.specs.declared.operation.Op.TheVariants as op
 use Rattle.rdb_base.specs.declared.operation.Reply.{Reply}

@@ -1,7 +1,5 @@
-use Rattle.std.proofs.Common.{◌≡◌, ℕ, List, ◌++◌, codes, decimal, All, Option, Some, None, IfSome, IsSomeAnd, IsTrue, refl, sym, ap, ◌∙◌, subst}
+use Rattle.std.proofs.Common.{◌≡◌, List, ◌++◌, codes, decimal, Some, IsTrue, subst}
 use Rattle.rdb_literals.proofs.ListLemmas.{at_some, at_none, if_some}
-use Rattle.rdb_base.specs.declared.operation.Op.TheVariants as op
-use Rattle.rdb_base.specs.declared.operation.Reply.{Reply}
 use Rattle.rdb_base.specs.declared.operation.Reply.TheVariants as reply
 use Rattle.rdb_base.specs.declared.value.Value.{Value}
 use Rattle.rdb_schema.specs.Values.{values_hold}

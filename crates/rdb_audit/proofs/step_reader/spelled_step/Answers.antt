@@ -1,11 +1,11 @@
-use Rattle.std.proofs.Common.{◌≡◌, ◌∷◌, ◌++◌, ℕ, List, codes, Option, Some, None, IfOk, IfSome, refl, sym, ap, ◌∙◌, subst}
+use Rattle.std.proofs.Common.{◌≡◌, ◌++◌, codes, Option, Some, None, sym, ◌∙◌, subst}
 use Rattle.rdb_literals.proofs.ListLemmas.{at_some, at_none, if_some}
 use Rattle.rdb_base.specs.declared.operation.Op.{Op}
 use Rattle.rdb_base.specs.declared.operation.Reply.{Reply}
 use Rattle.rdb_journal.specs.Operations.{operation_text}
 use Rattle.rdb_journal.specs.Replies.{reply_text}
 use Rattle.rdb_audit.specs.Printed.{IsPrintableOperation, IsPrintableReply, with_made, without_made}
-use Rattle.rdb_audit.proofs.StepLemmas.{printable_made, made_again, bare_reply, line_text, reply_made}
+use Rattle.rdb_audit.proofs.StepLemmas.{printable_made, made_again, line_text, reply_made}
 use Rattle.rdb_audit.proofs.step_reader.spelled_step.Goals as goal
 
 pub reply-requires : goal.reply-requires

@@ -1,12 +1,11 @@
-use Rattle.std.proofs.Common.{◌≡◌, true, false, Option, Some, None, sym, ap, ◌∙◌, subst}
+use Rattle.std.proofs.Common.{◌≡◌, true, false, Option, Some, None, sym, ap, ◌∙◌}
 use Rattle.std.proofs.lemmas.Bool.{false≢true}
 use Rattle.rdb_literals.proofs.ListLemmas.{if_some}
 use Rattle.rdb_base.specs.declared.operation.Op.{Op}
 use Rattle.rdb_base.specs.declared.operation.Reply.{Reply}
-use Rattle.rdb_base.specs.declared.identity.Kind.TheVariants as kind
 use Rattle.rdb_model.specs.Fits.{fits}
 use Rattle.rdb_journal.specs.Lines.{operation_line}
-use Rattle.rdb_audit.specs.Printed.{IsPrintableStep, IsPrintableOperation, IsPrintableReply}
+use Rattle.rdb_audit.specs.Printed.{IsPrintableOperation, IsPrintableReply}
 use Rattle.rdb_audit.proofs.LineLemmas.{on_true, on_false}
 use Rattle.rdb_audit.proofs.StepLemmas.{operation_names, reply_names, fits_writing}
 use Rattle.rdb_audit.proofs.step_reader.step.Goals as goal
@@ -38,6 +37,7 @@ returns-clause-exact c = λ op told e printable.
 
 pub returns-clause-found : goal.returns-clause-found
 returns-clause-found c =
-    let is = if_some c.in_ok-step.field-0 c.in-Some.step (λ s. IsPrintableOperation c.args.schema.now s.0 × IsPrintableReply c.args.schema.now s.0 s.1) c.in_ok-step.ensures.found c.in-Some.is in
-    (on_true c.is_word.result c.if-not-is_word.false c.is_word.ensures.yes ∙ c.as_bytes.ensures.value ∙ c.as_str.ensures ∙ c.in_ok-written.ensures,
-     record { fits = sym c.fits.ensures ∙ c.if-not-fits.false; operation = is.0; told = is.1 })
+    let is = if_some c.in_ok-step.field-0 c.in-Some.step (λ s. IsPrintableOperation c.args.schema.now s.0 × IsPrintableReply c.args.schema.now s.0 s.1) c.in_ok-step.ensures.found c.in-Some.is in (
+      on_true c.is_word.result c.if-not-is_word.false c.is_word.ensures.yes ∙ c.as_bytes.ensures.value ∙ c.as_str.ensures ∙ c.in_ok-written.ensures,
+      record { fits = sym c.fits.ensures ∙ c.if-not-fits.false; operation = is.0; told = is.1 },
+    )
