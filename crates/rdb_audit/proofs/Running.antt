@@ -1,5 +1,5 @@
 -- How far the reader of a report has come.
-use Rattle.std.proofs.Common.{◌≡◌, ◌≢◌, ℕ, ◌+◌, Bool, true, false, List, [], ◌∷◌, ◌++◌, length, Option, Some, None, refl, sym, ap, ◌∙◌, subst, arith, append_assoc, length-append}
+use Rattle.std.proofs.Common.{◌≡◌, ◌≢◌, ℕ, ◌+◌, Bool, true, false, List, [], ◌∷◌, ◌++◌, length, Option, Result, Err, Some, None, refl, sym, ap, ◌∙◌, subst, arith, append_assoc, length-append}
 use Rattle.std.specs.Bool.{OnTrue, OnFalse}
 use Rattle.std.proofs.lemmas.Bool.{false≢true}
 use Rattle.std.proofs.lemmas.List.{append-nil}
@@ -8,6 +8,9 @@ use Rattle.rdb_schema.specs.declared.schema.Schema.{Schema}
 use Rattle.rdb_audit.specs.declared.progress.Progress.{Progress}
 use Rattle.rdb_audit.specs.declared.progress.ReportLine.{ReportLine}
 use Rattle.rdb_audit.specs.declared.progress.Section.TheVariants as section
+use Rattle.rdb_audit.specs.declared.reader.ReadFault.{ReadFault}
+use Rattle.rdb_audit.specs.declared.reader.ReadFault.TheVariants as faults
+use Rattle.rdb_audit.specs.Verdicts.{IsJournalRead}
 use Rattle.rdb_audit.specs.Grammar.{lines, start, entries, text_of, MayStand, after, IsLine, Runs, IsReport, IsFirstBad}
 
 -- every line that may stand here leads there, or none may
@@ -129,3 +132,7 @@ is_over p false e h = absurd (false≢true e)
 pub not_over : (p : Progress) (b : Bool) → b ≡ false → OnFalse b (p.section ≢ section.Over) → p.section ≢ section.Over
 not_over p true e h = absurd (false≢true (sym e))
 not_over p false e h = h
+
+-- where memory was wanting nothing is said of the journal
+pub none_read : (r : Result (List Entry) ReadFault) (fault : ReadFault) (journal : List Entry) → r ≡ Err fault → fault ≡ faults.NoMemory → IsJournalRead r journal
+none_read r fault journal e f = subst (λ (q : Result (List Entry) ReadFault). IsJournalRead q journal) (sym (e ∙ ap (λ (y : ReadFault). Err y) f)) tt

@@ -1,8 +1,9 @@
 use Rattle.std.proofs.Common.{true, false, sym, ap, ◌∙◌, subst, arith}
+use Rattle.std.proofs.lemmas.Result.{err_from_is_err_and}
 use Rattle.rdb_audit.specs.declared.progress.Progress.{Progress}
 use Rattle.rdb_audit.specs.Grammar.{lines, Runs, IsReport}
 use Rattle.rdb_audit.proofs.Fitting.{report_fits, report_names}
-use Rattle.rdb_audit.proofs.Running.{HasRun, begins, goes_on, runs_on, bad_at, unended, is_report, only_report, no_report, no_unended, took_line, only_took, is_over, not_over}
+use Rattle.rdb_audit.proofs.Running.{HasRun, begins, goes_on, runs_on, bad_at, unended, is_report, only_report, none_read, no_report, no_unended, took_line, only_took, is_over, not_over}
 use Rattle.rdb_audit.proofs.reader.read.Goals as goal
 
 pub loop-line-init : goal.loop-line-init
@@ -46,3 +47,9 @@ returns-clause-fits c = report_fits c.args.schema.now c.args.report.now c.close.
 
 pub returns-clause-names : goal.returns-clause-names
 returns-clause-names c = report_names c.args.schema.now c.args.report.now c.close.new.self.journal (returns-clause-read c)
+
+pub returns-in_err-took-clause-only : goal.returns-in_err-took-clause-only
+returns-in_err-took-clause-only c = λ journal s. let p = err_from_is_err_and c.from_residual.result c.from_residual.ensures.1 in none_read c.from_residual.result p.0 journal p.1 p.2
+
+pub returns-in_err-close-clause-only : goal.returns-in_err-close-clause-only
+returns-in_err-close-clause-only c = λ journal s. let p = err_from_is_err_and c.from_residual-in_err-close.result c.from_residual-in_err-close.ensures.1 in none_read c.from_residual-in_err-close.result p.0 journal p.1 p.2
