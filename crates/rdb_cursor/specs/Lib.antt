@@ -2,4 +2,3 @@ pub mod Views
 pub mod Seeks
 pub mod Clashes
 pub mod Replies
-pub mod OneMark

@@ -6,8 +6,6 @@ mod marks;
 mod refusals;
 mod replies;
 mod seek;
-#[cfg(test)]
-mod tests;
 mod view;
 
 pub use marks::{Marks, Reader};
