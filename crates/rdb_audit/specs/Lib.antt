@@ -1,4 +1,0 @@
-pub mod Printed
-pub mod Heads
-pub mod Grammar
-pub mod Verdicts
