@@ -41,6 +41,14 @@ is_handled (Abort story cause) = false
 is_handled (Handled client by at finished) = true
 is_handled (Closed client) = false
 
+-- the entry is a client that was closed
+unfoldable pub is_closed : Entry → Bool
+is_closed (Commit story commit) = false
+is_closed (Read story) = false
+is_closed (Abort story cause) = false
+is_closed (Handled client by at finished) = false
+is_closed (Closed client) = true
+
 -- how many entries of each kind there are, but for the closed ones
 abbrev pub totals_line : List Entry → List ℕ
 totals_line journal =

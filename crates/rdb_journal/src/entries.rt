@@ -76,7 +76,7 @@ fn head_line(alloc: Global, entry: &Entry) -> Result<Text, NoMemory>
 }
 
 /// The line of an operation and its reply.
-fn operation_line(alloc: Global, schema: &Schema, step: &(Op, Reply)) -> Result<Text, NoMemory>
+pub fn operation_line(alloc: Global, schema: &Schema, step: &(Op, Reply)) -> Result<Text, NoMemory>
     requires { StepNamesExist schema.now step.now }
     ensures { IfOk result (λ line. line ≡ operation_line schema.now step.now) }
 {

@@ -102,7 +102,7 @@ fn a_commit_and_a_done_client_make_the_whole_report(rt: HostRuntime) -> Result<(
     let mut notes = List::new(alloc);
     notes.push(List::new(alloc))?;
     let mut whole = String::new(alloc);
-    for line in report(alloc, &schema, &journal, &ends, &notes)?.as_slice() {
+    for line in report(alloc, &schema, journal.as_slice(), &ends, &notes)?.as_slice() {
         whole.push_str(line.as_str())?;
     }
     let expected = "commit 1 client 1 tx 1 begun 0 snapshot 0

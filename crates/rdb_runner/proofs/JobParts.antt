@@ -1,6 +1,6 @@
 -- Texts that the files tell are the texts that were read.
-use Rattle.std.proofs.Common.{◌≡◌, ℕ, ◌⊎◌, inl, inr, List, [], ◌∷◌, Option, Some, refl, sym, ap, ◌∙◌, subst}
-use Rattle.std.specs.Prelude.{IfSome, true, false, None}
+use Rattle.std.proofs.Common.{◌≡◌, ℕ, inl, inr, List, ◌∷◌, Option, Some, sym, ◌∙◌, subst}
+use Rattle.std.specs.Prelude.{IfSome, None}
 use Rattle.std.proofs.lemmas.Bool.{false≢true}
 use Rattle.rdb_schema.specs.declared.schema.Schema.{Schema}
 use Rattle.rdb_ddl.specs.Read.{IsRead, IsRefused}
@@ -11,9 +11,8 @@ use Rattle.rdb_script.specs.declared.unit.ScriptLine.{ScriptLine}
 use Rattle.rdb_script.specs.Schedule.{IsSchedule}
 use Rattle.rdb_script.specs.Scripts.{IsScript}
 use Rattle.rdb_runner.specs.Parts.{names_of, HasRefusedScript, HasBadScript, HasBadSchedule}
-use Rattle.rdb_runner.specs.PlainJob.{IsPlainJob, IsOther, is_plain_schedule, plain_lines}
-use Rattle.rdb_runner.specs.PlainSchema.{is_plain_schema}
-use Rattle.rdb_runner.specs.Promise.{IsFirstOther, ArePlain}
+use Rattle.rdb_runner.specs.PlainJob.{IsPlainJob, IsOther}
+use Rattle.rdb_runner.specs.PlainPromise.{IsFirstOther, ArePlain}
 use Rattle.rdb_runner.specs.Reading.{Sight, AreBytesOf, IsBytesOf, AllRead}
 use Rattle.rdb_runner.specs.SchemaFile.{IsBadSchema}
 

@@ -1,5 +1,5 @@
 -- What the work on three texts gives, part by part.
-use Rattle.std.proofs.Common.{◌≡◌, ℕ, List, refl}
+use Rattle.std.proofs.Common.{◌≡◌, ℕ, List}
 use Rattle.std.specs.Prelude.{Ok, Err}
 use Rattle.std.specs.List.{concat}
 use Rattle.rdb_schema.specs.declared.schema.Schema.{Schema}
@@ -11,10 +11,9 @@ use Rattle.rdb_script.specs.Schedule.{IsSchedule}
 use Rattle.rdb_script.specs.Scripts.{IsScript}
 use Rattle.rdb_runner.specs.declared.halt.Halt.{Halt}
 use Rattle.rdb_runner.specs.declared.halt.Halt.TheVariants as halt
-use Rattle.rdb_runner.specs.Parts.{IsNoScript, IsNoSchedule}
 use Rattle.rdb_runner.specs.PlainJob.{IsPlainJob, IsOther}
 use Rattle.rdb_runner.specs.PlainReport.{IsPrinted}
-use Rattle.rdb_runner.specs.Promise.{IsWork}
+use Rattle.rdb_runner.specs.Work.{IsNoScript, IsNoSchedule, IsWork}
 
 -- the client is refused
 pub work_no_script : (text schedule client : List ℕ) (schema : Schema) (h : Halt) → IsRead text schema → IsNoScript schema client h → IsWork text schedule client (Err h)

@@ -1,11 +1,14 @@
--- What the words of a command line are owed: which status, and which text.
+-- What the words of a command line are promised: the command that they ask for ends as it promises, and else they end with the usage.
 use Rattle.std.specs.Prelude.{◌≡◌, ℕ, ◌⊎◌, List, [], ◌∷◌, ◌++◌, codes}
+use Rattle.rdb_runner.specs.declared.status.Status.{Status}
+use Rattle.rdb_runner.specs.declared.status.Status.TheVariants.{Usage, NoMemory, NotBuilt}
 use Rattle.rdb_runner.specs.CommandLine.{Word, Command, replay, run, audit, check, job, IsCommandLine, word_of}
+use Rattle.rdb_runner.specs.Ending.{Ends, Never}
 use Rattle.rdb_runner.specs.Parts.{names_of}
-use Rattle.rdb_runner.specs.Promise.{JobOwes}
+use Rattle.rdb_runner.specs.Promise.{ReplayOwes, CheckOwes}
 use Rattle.rdb_runner.specs.Reading.{Sight, AsksFirst}
-use Rattle.rdb_runner.specs.SchemaFile.{CheckOwes}
-use Rattle.rdb_runner.specs.Telling.{Ink, Tells, IsCutOff, IsSilent}
+use Rattle.rdb_runner.specs.Statuses.{number_of}
+use Rattle.rdb_runner.specs.Telling.{Ink, IsCutOff}
 
 -- the words are no command line
 abbrev pub IsNoCommandLine : List Word → Type 0
@@ -14,6 +17,10 @@ IsNoCommandLine words = (command : Command) → IsCommandLine words command → 
 -- the line of words that are no command line
 abbrev pub usage_line : List ℕ
 usage_line = codes "regiondb: usage\n"
+
+-- the line of a command that isn't built
+abbrev pub not_built_line : Command → List ℕ
+not_built_line command = codes "regiondb: not built " ++ word_of command ++ codes "\n"
 
 -- what a command reads files for: a job's replay, by its files' names, or the check of a schema; other commands, and
 -- replays without exactly one client, aren't built yet
@@ -31,41 +38,64 @@ task_of (audit schema report) = unbuilt
 task_of (check schema) = checks schema
 task_of (job seed with_threads) = unbuilt
 
+-- the files that a task reads, in order
+abbrev pub files_of_task : Task → List Word
+files_of_task (replays names) = names
+files_of_task (checks name) = name ∷ []
+files_of_task unbuilt = []
+
 -- no file was asked and no read failed
 abbrev pub SeesNothing : Sight → Type 0
 SeesNothing sight = (sight.asked_then ≡ sight.asked) × (sight.faults_then ≡ sight.faults)
 
--- the line of a command that isn't built
-abbrev pub not_built_line : Command → List ℕ
-not_built_line command = codes "regiondb: not built " ++ word_of command ++ codes "\n"
+-- what words owe that are no command line
+abbrev pub UsageOwes : Sight → Status → List ℕ → Type 0
+UsageOwes sight Usage = λ text. (text ≡ usage_line) × SeesNothing sight
+UsageOwes sight _ = Never
 
--- a command is owed what its task is owed, or that it isn't built
-abbrev pub CommandOwes : Command → Task → Sight → ℕ → List ℕ → Type 0
-CommandOwes command (replays names) sight status text = JobOwes names sight status text
-CommandOwes command (checks name) sight status text = CheckOwes name sight status text
-CommandOwes command unbuilt sight status text = (status ≡ 10) × (text ≡ not_built_line command) × SeesNothing sight
+-- what a command owes that isn't built
+abbrev pub UnbuiltOwes : Command → Sight → Status → List ℕ → Type 0
+UnbuiltOwes command sight NotBuilt = λ text. (text ≡ not_built_line command) × SeesNothing sight
+UnbuiltOwes command sight _ = Never
 
--- a task's files are asked in order, and none where nothing is built
-abbrev pub TaskAsks : Task → Sight → Type 0
-TaskAsks (replays names) sight = AsksFirst sight names
-TaskAsks (checks name) sight = AsksFirst sight (name ∷ [])
-TaskAsks unbuilt sight = sight.asked_then ≡ sight.asked
+-- a command owes what its task owes, or that it isn't built
+abbrev pub CommandOwes : Command → Task → Sight → Status → List ℕ → Type 0
+CommandOwes command (replays names) sight = ReplayOwes names sight
+CommandOwes command (checks name) sight = CheckOwes name sight
+CommandOwes command unbuilt sight = UnbuiltOwes command sight
+
+-- how a command with this task ends
+abbrev pub TaskEnds : Command → Task → Sight → Ink → ℕ → Type 0
+TaskEnds command task sight ink answer = Ends (files_of_task task) (CommandOwes command task sight) sight ink answer
+
+-- How a command ends: a replay of one client as `replay` promises, a check as `check` promises, others as not built.
+abbrev pub CommandEnds : Command → Sight → Ink → ℕ → Type 0
+CommandEnds command sight ink answer = TaskEnds command (task_of command) sight ink answer
 
 abbrev pub IsBuilt : Task → Type 0
 IsBuilt (replays names) = Unit {0}
 IsBuilt (checks name) = Unit {0}
 IsBuilt unbuilt = ⊥
 
--- How a command ends: what is owed is told, or memory is wanting for its task and nothing is written. Its files are asked in order.
-pub record CommandEnds (command : Command) (sight : Sight) (ink : Ink) (result : ℕ) : Type 0 where
-  pub told : ((status : ℕ) × (text : List ℕ) × CommandOwes command (task_of command) sight status text × Tells ink status text result)
-      ⊎ ((result ≡ 8) × IsSilent ink × IsBuilt (task_of command))
-  pub asked : TaskAsks (task_of command) sight
+-- the words ask for a command that is built
+abbrev pub AsksForBuilt : List Word → Type 0
+AsksForBuilt words = (command : Command) × IsCommandLine words command × IsBuilt (task_of command)
 
--- words are owed what the command that they ask for is owed, or the usage
-abbrev pub WordsOwe : List Word → Sight → ℕ → List ℕ → Type 0
+-- How words end:
+-- `usage`: where they are no command line, with the usage; `command`: else as the command that they ask for; `either`: one of these
+-- is so; `memory`: memory is wanting only for a command that is built.
+pub record WordsEnd (words : List Word) (sight : Sight) (ink : Ink) (answer : ℕ) : Type 0 where
+  pub usage : IsNoCommandLine words → Ends [] (UsageOwes sight) sight ink answer
+  pub command : (asked : Command) → IsCommandLine words asked → CommandEnds asked sight ink answer
+  pub either : IsNoCommandLine words ⊎ ((asked : Command) × IsCommandLine words asked)
+  pub memory : answer ≡ number_of NoMemory → AsksForBuilt words
+
+-- Below: what follows from that is said by these.
+
+-- words owe what the command that they ask for owes, or the usage
+abbrev pub WordsOwe : List Word → Sight → Status → List ℕ → Type 0
 WordsOwe words sight status text =
-    ((status ≡ 2) × IsNoCommandLine words × (text ≡ usage_line) × SeesNothing sight)
+    (IsNoCommandLine words × UsageOwes sight status text)
     ⊎ ((command : Command) × IsCommandLine words command × CommandOwes command (task_of command) sight status text)
 
 -- the words ask for the replay of a job with these files
@@ -80,23 +110,14 @@ AsksToCheck words name = (command : Command) × IsCommandLine words command × (
 abbrev pub AsksForFiles : List Word → List Word → Type 0
 AsksForFiles words names = AsksFor words names ⊎ ((name : Word) × AsksToCheck words name × (names ≡ name ∷ []))
 
--- the words ask for a command that is built
-abbrev pub AsksForBuilt : List Word → Type 0
-AsksForBuilt words = (command : Command) × IsCommandLine words command × IsBuilt (task_of command)
-
--- How words end: what is owed is told, or memory is wanting for what is built and nothing is written.
-abbrev pub WordsEnd : List Word → Sight → Ink → ℕ → Type 0
-WordsEnd words sight ink result =
-    ((status : ℕ) × (text : List ℕ) × WordsOwe words sight status text × Tells ink status text result)
-    ⊎ ((result ≡ 8) × IsSilent ink × AsksForBuilt words)
-
--- a write failed, and what was written is a prefix of a text that was owed
-abbrev pub IsCutShort : List Word → Sight → Ink → Type 0
-IsCutShort words sight ink = (status : ℕ) × (text : List ℕ) × WordsOwe words sight status text × IsCutOff ink text
-
--- the words ask for a command that isn't built
+-- the words ask for a command that isn't built, and this is its line
 abbrev pub AsksForOther : List Word → List ℕ → Type 0
-AsksForOther words text = (command : Command) × IsCommandLine words command × (task_of command ≡ unbuilt) × (text ≡ not_built_line command)
+AsksForOther words text =
+    (command : Command) × IsCommandLine words command × (task_of command ≡ unbuilt) × (text ≡ not_built_line command)
+
+-- a write failed, and what was written is a prefix of a text that was due
+abbrev pub IsCutShort : List Word → Sight → Ink → Type 0
+IsCutShort words sight ink = (status : Status) × (text : List ℕ) × WordsOwe words sight status text × IsCutOff ink text
 
 -- the names that a call asked are the first of those that the words' command reads, and none where it reads none
 abbrev pub AsksInOrder : List Word → Sight → Type 0

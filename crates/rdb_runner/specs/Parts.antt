@@ -6,8 +6,6 @@ use Rattle.rdb_script.specs.declared.item.Item.{Item}
 use Rattle.rdb_script.specs.declared.unit.Script.{Script}
 use Rattle.rdb_script.specs.Schedule.{IsSchedule, IsFirstFault}
 use Rattle.rdb_script.specs.Scripts.{IsScript, IsFirstRefused}
-use Rattle.rdb_runner.specs.declared.halt.Halt.{Halt}
-use Rattle.rdb_runner.specs.declared.halt.Halt.TheVariants as halt
 use Rattle.rdb_runner.specs.Reading.{Sight, AllRead}
 
 -- the three names of a job's files: its schema, its schedule and its client
@@ -23,18 +21,6 @@ pub record IsRefusedScript (schema : Schema) (text : List ℕ) (line : ℕ) : Ty
 pub record IsRefusedSchedule (text : List ℕ) (number : ℕ) : Type 0 where
   pub first : IsFirstFault 1 text number
   pub none : (items : List Item) → IsSchedule 1 text items → ⊥
-
--- the text gives no script for this reason
-abbrev pub IsNoScript : Schema → List ℕ → Halt → Type 0
-IsNoScript schema text (halt.BadScript line) = IsRefusedScript schema text line
-IsNoScript schema text halt.NoMemory = Unit {0}
-IsNoScript schema text _ = ⊥
-
--- the text gives no schedule for this reason
-abbrev pub IsNoSchedule : List ℕ → Halt → Type 0
-IsNoSchedule text (halt.BadSchedule number) = IsRefusedSchedule text number
-IsNoSchedule text halt.NoMemory = Unit {0}
-IsNoSchedule text _ = ⊥
 
 -- three texts declare a schema, are a schedule for one client, and are a script for the schema
 pub record AreParts (schema_text schedule_text client_text : List ℕ) (schema : Schema) (items : List Item) (script : Script) : Type 0 where
@@ -77,7 +63,7 @@ IsBadSchedule names sight text =
     (schema schedule client : List ℕ) × (number : ℕ) × AllRead sight names (names_of schema schedule client)
     × HasRefusedSchedule schema schedule client number × (text ≡ schedule_line number)
 
--- the files tell a schema, and a client that is no script for it
+-- the files tell a schema, and a client that is no script for it, whatever the call did
 pub record HasBadScript (names : List (List ℕ)) (sight : Sight) : Type 0 where
   pub schema_name : List ℕ
   pub schedule_name : List ℕ
@@ -91,7 +77,7 @@ pub record HasBadScript (names : List (List ℕ)) (sight : Sight) : Type 0 where
   pub schema_read : IsRead schema_text schema
   pub no_script : (script : Script) → IsScript schema client_text script → ⊥
 
--- the files tell a schema, a script for it, and a schedule that is none for one client
+-- the files tell a schema, a script for it, and a schedule that is none for one client, whatever the call did
 pub record HasBadSchedule (names : List (List ℕ)) (sight : Sight) : Type 0 where
   pub schema_name : List ℕ
   pub schedule_name : List ℕ

@@ -58,7 +58,8 @@ pub record IsPrinted (schema : Schema) (lines : List ScriptLine) (text : List �
   pub made : IsJournalOf schema lines journal
   pub printed : text ≡ report schema journal (ends.Done ∷ []) ([] ∷ [])
 
--- the report of these three texts
+-- the text is the report of these three texts: of a legal journal whose one commit has the operations of the client's lines, in order,
+-- answered by a plain database that was empty; the k-th `new` made the id k
 pub record IsReportOf (schema_text schedule_text client_text text : List ℕ) : Type 0 where
   pub schema : Schema
   pub items : List Item

@@ -40,7 +40,9 @@ AreBytesOf told (name ∷ names) [] = ⊥
 
 -- the read of this name failed in this call, or its file is longer than the limit
 abbrev pub CannotRead : Sight → List ℕ → Type 0
-CannotRead sight name = Rose sight.faults sight.faults_then ⊎ (IfSome (sight.told name) (λ there. FILE_LIMIT < length there) × (sight.faults_then ≡ sight.faults))
+CannotRead sight name =
+    Rose sight.faults sight.faults_then
+    ⊎ (IfSome (sight.told name) (λ there. FILE_LIMIT < length there) × (sight.faults_then ≡ sight.faults))
 
 -- what is said of one file
 abbrev pub IsReadOf : Sight → List ℕ → ℕ → Result (List ℕ) Unread → Type 0
@@ -53,8 +55,10 @@ IsReadOf sight name place (Err NoMemory) = (sight.asked_then ≡ sight.asked) ×
 abbrev pub AreReadOf : Sight → List (List ℕ) → Result (List (List ℕ)) Unread → Type 0
 AreReadOf sight names (Ok texts) = AreBytesOf sight.told names texts × Asks sight names × (sight.faults_then ≡ sight.faults)
 AreReadOf sight names (Err (At place)) =
-    (name : List ℕ) × (texts : List (List ℕ)) × (slice_get names place ≡ Some name) × AreBytesOf sight.told (take place names) texts × CannotRead sight name × Asks sight (take (place + 1) names)
-AreReadOf sight names (Err NoMemory) = (asked : ℕ) × (asked ≤ length names) × Asks sight (take asked names) × (sight.faults_then ≡ sight.faults)
+    (name : List ℕ) × (texts : List (List ℕ)) × (slice_get names place ≡ Some name)
+    × AreBytesOf sight.told (take place names) texts × CannotRead sight name × Asks sight (take (place + 1) names)
+AreReadOf sight names (Err NoMemory) =
+    (asked : ℕ) × (asked ≤ length names) × Asks sight (take asked names) × (sight.faults_then ≡ sight.faults)
 
 -- every file was read in this call, in order, and no read failed
 abbrev pub AllRead : Sight → List (List ℕ) → List (List ℕ) → Type 0
@@ -63,13 +67,16 @@ AllRead sight names texts = AreBytesOf sight.told names texts × Asks sight name
 -- unreadable: the first file that can't be read is named, and nothing behind it was asked
 abbrev pub IsUnreadable : List (List ℕ) → Sight → List ℕ → Type 0
 IsUnreadable names sight text =
-    (place : ℕ) × (name : List ℕ) × (texts : List (List ℕ)) × (slice_get names place ≡ Some name) × AreBytesOf sight.told (take place names) texts
-    × CannotRead sight name × Asks sight (take (place + 1) names) × (text ≡ codes "regiondb: cannot read " ++ name ++ codes "\n")
+    (place : ℕ) × (name : List ℕ) × (texts : List (List ℕ)) × (slice_get names place ≡ Some name)
+    × AreBytesOf sight.told (take place names) texts × CannotRead sight name × Asks sight (take (place + 1) names)
+    × (text ≡ codes "regiondb: cannot read " ++ name ++ codes "\n")
 
 -- the names that a call asked are the first of these
 abbrev pub AsksFirst : Sight → List (List ℕ) → Type 0
 AsksFirst sight names = (asked : ℕ) × (asked ≤ length names) × Asks sight (take asked names)
 
--- one of the files is told to be longer than the limit
+-- one of the files is told to be longer than the limit, whatever the call did
 abbrev pub HasTooLong : List (List ℕ) → Sight → Type 0
-HasTooLong names sight = (place : ℕ) × (name : List ℕ) × (there : List ℕ) × (slice_get names place ≡ Some name) × (sight.told name ≡ Some there) × (FILE_LIMIT < length there)
+HasTooLong names sight =
+    (place : ℕ) × (name : List ℕ) × (there : List ℕ)
+    × (slice_get names place ≡ Some name) × (sight.told name ≡ Some there) × (FILE_LIMIT < length there)

@@ -1,4 +1,4 @@
--- Which of a script's lines the plain database can do.
+-- Which of a script's lines the plain database can do. Private functions alone ask it, and every plain script has it.
 use Rattle.std.specs.Prelude.{◌≡◌, IsTrue}
 use Rattle.rdb_base.specs.declared.operation.Op.{Op}
 use Rattle.rdb_base.specs.declared.operation.Op.TheVariants as op

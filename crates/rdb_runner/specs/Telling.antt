@@ -2,6 +2,8 @@
 use Rattle.std.specs.Prelude.{◌≡◌, ℕ, ◌≤◌, ◌⊎◌, List, ◌++◌, length, take, Option}
 use Rattle.std.specs.Option.{option_map}
 use Rattle.rdb_base.specs.Outside.{Rose}
+use Rattle.rdb_runner.specs.declared.status.Status.{Status}
+use Rattle.rdb_runner.specs.declared.status.Status.TheVariants.{CutOff, NoMemory}
 
 -- what the sink tells of its bytes, and its faults, before a call and after it
 pub record Ink : Type 0 where
@@ -33,9 +35,13 @@ IsCutOff ink text = (taken : ℕ) × (taken ≤ length text) × Appends ink (tak
 abbrev pub IsSilent : Ink → Type 0
 IsSilent ink = (ink.after ≡ ink.before) × IsCalm ink
 
--- the text was written and the status is its own, or the status is 7 and the text is cut off
-abbrev pub Tells : Ink → ℕ → List ℕ → ℕ → Type 0
-Tells ink status text result = ((result ≡ status) × Writes ink text) ⊎ ((result ≡ 7) × IsCutOff ink text)
+-- the text was written and the status is its own, or it is cut off
+abbrev pub Tells : Ink → Status → List ℕ → Status → Type 0
+Tells ink own text status = ((status ≡ own) × Writes ink text) ⊎ ((status ≡ CutOff) × IsCutOff ink text)
+
+-- the text is told, or memory is wanting and nothing is written
+abbrev pub MayTell : Ink → Status → List ℕ → Status → Type 0
+MayTell ink own text status = Tells ink own text status ⊎ ((status ≡ NoMemory) × IsSilent ink)
 
 -- the text was written whole, and it is due by this fact
 abbrev pub Shows : Ink → (List ℕ → Type 0) → Type 0

@@ -1,14 +1,17 @@
 //! The command `check`: reads a schema's file and writes its canonical text.
 //! It touches the caller's files and sink alone.
 
-ghost use Rattle.std.specs.Prelude.{◌≡◌, ◌≤◌, ◌<◌, [], ◌∷◌, length, Contains};
-ghost use Rattle.rdb_runner.specs.Reading.{sight_of, AsksFirst, IsUnreadable, HasTooLong};
-ghost use Rattle.rdb_runner.specs.SchemaFile.{IsRewritten, IsChecked, IsBadSchema, HasBadSchema, IsCheckWork, CheckEnds, IsCheckCutOff};
-ghost use Rattle.rdb_runner.specs.Telling.{IsSilent, ink_of, Shows};
+ghost use Rattle.std.specs.Prelude.{◌≤◌, [], ◌∷◌, length};
+ghost use Rattle.rdb_runner.specs.Promise.{CheckEnds};
+ghost use Rattle.rdb_runner.specs.Reading.{sight_of, AsksFirst};
+ghost use Rattle.rdb_runner.specs.Statuses.{number_of};
+ghost use Rattle.rdb_runner.specs.Telling.{ink_of};
+ghost use Rattle.rdb_runner.specs.Work.{IsRewritten, IsCheckWork};
 
 use crate::reading::{Unread, read_one};
 use crate::schema_reading::{NoSchema, schema_in};
-use crate::telling::{NO_MEMORY, tell, tell_fault, tell_name};
+use crate::status::Status;
+use crate::telling::{tell, tell_fault, tell_unreadable};
 use rdb_base::files::Files;
 use rdb_base::sink::Sink;
 use rdb_base::text::Text;
@@ -56,48 +59,24 @@ fn work<F: Files>(alloc: Global, files: &mut F, schema: &str) -> Result<Text, Un
 }
 
 /// What a check ends with.
-fn end<F: Files, K: Sink>(alloc: Global, schema: &str, files: &mut F, out: &mut K) -> u8
-    ensures { CheckEnds schema.now (sight_of F.told F.asked F.faults files.old files.new) (ink_of K.written K.faults out.old out.new) result }
+fn end<F: Files, K: Sink>(alloc: Global, schema: &str, files: &mut F, out: &mut K) -> Status
+    ensures { CheckEnds schema.now
+        (sight_of F.told F.asked F.faults files.old files.new) (ink_of K.written K.faults out.old out.new) (number_of result) }
 {
     match work(alloc, files, schema) {
-        Ok(text) => tell(out, 0, text.as_str().as_bytes()),
-        Err(Unchecked::Unreadable) => { tell_name(alloc, out, 3, "regiondb: cannot read ", schema) }
+        Ok(text) => tell(out, Status::Done, text.as_str().as_bytes()),
+        Err(Unchecked::Unreadable) => tell_unreadable(alloc, out, schema),
         Err(Unchecked::Refused(fault)) => tell_fault(alloc, out, &fault),
-        Err(Unchecked::NoMemory) => NO_MEMORY,
+        Err(Unchecked::NoMemory) => Status::NoMemory,
     }
 }
 
-/// Checks the schema in the file of this name: reads it and writes its canonical text, as one piece. The cost grows with
-/// the file.
-///
-/// The status is 0 where all is done, 3 where the file can't be read, 4 where it breaks the grammar of schemas or a rule,
-/// 7 where the write failed and 8 where memory was wanting.
+/// Checks the schema in the file of this name: reads it and writes its canonical text, as one piece. The answer is the number of
+/// a status: done, unreadable, bad schema, cut off or want of memory. What follows for each is said in `laws`. The cost grows with the
+/// file.
 pub fn check<F: Files, K: Sink>(alloc: Global, schema: &str, files: &mut F, out: &mut K) -> u8
-    ensures statuses { Contains (0 ∷ 3 ∷ 4 ∷ 7 ∷ 8 ∷ []) result }
-
-    // 0: the text is the canonical text of the schema that the file declares, and all of it was written.
-    ensures checked { result ≡ 0 → Shows (ink_of K.written K.faults out.old out.new)
-        (IsChecked schema.now (sight_of F.told F.asked F.faults files.old files.new)) }
-
-    // 3: exactly where the read failed or the file is too long.
-    ensures unreadable { result ≡ 3 → Shows (ink_of K.written K.faults out.old out.new)
-        (IsUnreadable (schema.now ∷ []) (sight_of F.told F.asked F.faults files.old files.new)) }
-    ensures failed_read { F.faults files.old < F.faults files.new → Contains (3 ∷ 7 ∷ 8 ∷ []) result }
-    ensures too_long { HasTooLong (schema.now ∷ []) (sight_of F.told F.asked F.faults files.old files.new) → Contains (3 ∷ 7 ∷ 8 ∷ []) result }
-
-    // 4: exactly where the schema is refused, with its first fault.
-    ensures bad_schema { result ≡ 4 → Shows (ink_of K.written K.faults out.old out.new)
-        (IsBadSchema (schema.now ∷ []) (sight_of F.told F.asked F.faults files.old files.new)) }
-    ensures refused { HasBadSchema (schema.now ∷ []) (sight_of F.told F.asked F.faults files.old files.new) → Contains (3 ∷ 4 ∷ 7 ∷ 8 ∷ []) result }
-
-    // 7: only where a write failed, and a prefix of what was due is written. 8: nothing is written.
-    ensures interrupted { result ≡ 7 → IsCheckCutOff schema.now (sight_of F.told F.asked F.faults files.old files.new)
-        (ink_of K.written K.faults out.old out.new) }
-    ensures memory { result ≡ 8 → IsSilent (ink_of K.written K.faults out.old out.new) }
-
-    // The file is asked once.
-    ensures asked { AsksFirst (sight_of F.told F.asked F.faults files.old files.new) (schema.now ∷ []) }
-    ensures ends { CheckEnds schema.now (sight_of F.told F.asked F.faults files.old files.new) (ink_of K.written K.faults out.old out.new) result }
+    ensures { CheckEnds schema.now
+        (sight_of F.told F.asked F.faults files.old files.new) (ink_of K.written K.faults out.old out.new) result }
 {
-    end(alloc, schema, files, out)
+    end(alloc, schema, files, out).number()
 }

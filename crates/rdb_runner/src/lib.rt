@@ -6,13 +6,16 @@ pub mod command_line;
 #[cfg(test)]
 mod generated_job_tests;
 mod halt;
+pub mod laws;
 mod part_reading;
 mod plain_job;
+pub mod plain_laws;
 mod plain_run;
 pub mod reading;
 pub mod region;
 pub mod replay;
 pub mod schema_reading;
+pub mod status;
 mod telling;
 #[cfg(test)]
 mod tests;

@@ -5,7 +5,7 @@ ghost use Rattle.rdb_script.specs.declared.item.Item.{Item};
 ghost use Rattle.rdb_script.specs.declared.unit.Script.{Script as Meant};
 ghost use Rattle.rdb_script.specs.Schedule.{IsSchedule};
 ghost use Rattle.rdb_script.specs.Scripts.{IsScript};
-ghost use Rattle.rdb_runner.specs.Parts.{IsNoScript, IsNoSchedule};
+ghost use Rattle.rdb_runner.specs.Work.{IsNoScript, IsNoSchedule};
 
 use crate::halt::Halt;
 use rdb_schema::schema::Schema;

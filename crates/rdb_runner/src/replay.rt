@@ -1,18 +1,19 @@
 //! The command `replay`: reads the files of a job, runs its client and writes the report.
 //! It touches the caller's files and sink alone.
 
-ghost use Rattle.std.specs.Prelude.{◌≡◌, ◌≢◌, ◌≤◌, ◌<◌, ℕ, List, [], ◌∷◌, length, true, Contains, IfOk, Some, slice_get};
+ghost use Rattle.std.specs.Prelude.{◌≡◌, ◌≤◌, ◌<◌, ℕ, List, length, true, IfOk, Some, slice_get};
 ghost use Rattle.std.specs.List.{concat, AllByRecursion};
 ghost use Rattle.rdb_ddl.specs.Read.{IsRead};
 ghost use Rattle.rdb_runner.specs.Job.{files_of};
-ghost use Rattle.rdb_runner.specs.Parts.{names_of, IsBadScript, IsBadSchedule, HasBadScript, HasBadSchedule};
+ghost use Rattle.rdb_runner.specs.Parts.{names_of};
 ghost use Rattle.rdb_runner.specs.PlainReport.{IsPrinted};
 ghost use Rattle.rdb_runner.specs.PlainSchema.{is_plain_schema};
-ghost use Rattle.rdb_runner.specs.Promise.{IsWork, IsJobWork, JobEnds, IsDone, IsNotBuilt, IsInterrupted, ArePlain};
-ghost use Rattle.rdb_runner.specs.Reading.{sight_of, AsksFirst, IsUnreadable, HasTooLong};
+ghost use Rattle.rdb_runner.specs.Promise.{ReplayEnds};
+ghost use Rattle.rdb_runner.specs.Reading.{sight_of, AsksFirst};
 ghost use Rattle.rdb_runner.specs.Runs.{CanRun};
-ghost use Rattle.rdb_runner.specs.SchemaFile.{IsBadSchema, HasBadSchema};
-ghost use Rattle.rdb_runner.specs.Telling.{IsSilent, ink_of, Shows};
+ghost use Rattle.rdb_runner.specs.Statuses.{number_of};
+ghost use Rattle.rdb_runner.specs.Telling.{ink_of};
+ghost use Rattle.rdb_runner.specs.Work.{IsWork, IsJobWork};
 ghost use Rattle.rdb_schema.specs.Schemas.{IsSchema};
 
 use crate::halt::Halt;
@@ -21,7 +22,10 @@ use crate::plain_job::plain_job;
 use crate::plain_run::plain_journal;
 use crate::reading::{Unread, read_all};
 use crate::schema_reading::{NoSchema, schema_in};
-use crate::telling::{NO_MEMORY, tell_fault, tell_item, tell_line, tell_lines, tell_name};
+use crate::status::Status;
+use crate::telling::{
+    tell_fault, tell_item, tell_line, tell_lines, tell_not_built, tell_unreadable,
+};
 use rdb_base::files::Files;
 use rdb_base::identity::Manager;
 use rdb_base::list::{List, NoMemory};
@@ -58,7 +62,7 @@ fn lines_of(alloc: Global, schema: &Schema, lines: &ScriptLines) -> Result<Lines
     ends.push(End::Done)?;
     let mut notes = List::new(alloc);
     notes.push(List::new(alloc))?;
-    report(alloc, schema, &journal, &ends, &notes)
+    report(alloc, schema, journal.as_slice(), &ends, &notes)
 }
 
 /// The lines of the report of a schema that was read and these texts; else the first fault of the client, then of the
@@ -146,30 +150,32 @@ fn end_job<F: Files, K: Sink>(
     schema: &str,
     schedule: &str,
     client: &str,
-) -> u8
-    ensures { JobEnds (names_of schema.now schedule.now client.now) (sight_of F.told F.asked F.faults files.old files.new) (ink_of K.written K.faults out.old out.new) result }
+) -> Status
+    ensures { ReplayEnds (names_of schema.now schedule.now client.now)
+        (sight_of F.told F.asked F.faults files.old files.new) (ink_of K.written K.faults out.old out.new) (number_of result) }
 {
     match work(alloc, files, schema, schedule, client) {
         Ok(lines) => tell_lines(out, &lines),
         Err(Halt::Unreadable(place)) => {
             let name = name_at(schema, schedule, client, place);
-            tell_name(alloc, out, 3, "regiondb: cannot read ", name)
+            tell_unreadable(alloc, out, name)
         }
         Err(Halt::BadSchema(fault)) => tell_fault(alloc, out, &fault),
         Err(Halt::BadScript(line)) => tell_line(alloc, out, 1, line),
         Err(Halt::BadSchedule(item)) => tell_item(alloc, out, item),
         Err(Halt::NotBuilt(place)) => {
             let name = name_at(schema, schedule, client, place);
-            tell_name(alloc, out, 10, "regiondb: not built ", name)
+            tell_not_built(alloc, out, name)
         }
-        Err(Halt::NoMemory) => NO_MEMORY,
+        Err(Halt::NoMemory) => Status::NoMemory,
     }
 }
 
 /// What a job with one client ends with.
-fn end<F: Files, K: Sink>(alloc: Global, job: &Job, files: &mut F, out: &mut K) -> u8
+fn end<F: Files, K: Sink>(alloc: Global, job: &Job, files: &mut F, out: &mut K) -> Status
     requires { length job.now.clients ≡ 1 }
-    ensures { JobEnds (files_of job.now) (sight_of F.told F.asked F.faults files.old files.new) (ink_of K.written K.faults out.old out.new) result }
+    ensures { ReplayEnds (files_of job.now)
+        (sight_of F.told F.asked F.faults files.old files.new) (ink_of K.written K.faults out.old out.new) (number_of result) }
 {
     let schema = job.schema.as_str();
     let schedule = job.schedule.as_str();
@@ -177,57 +183,16 @@ fn end<F: Files, K: Sink>(alloc: Global, job: &Job, files: &mut F, out: &mut K) 
     end_job(alloc, files, out, schema, schedule, client)
 }
 
-/// Replays a job: reads its files in order, runs its client and writes the report. Until other forms are built it is
-/// for jobs with one client, whose files are of the simplest form. The cost grows with the files and the report.
+/// Replays a job: reads its files in order, runs its client and writes the report, each line one piece. Until other forms are built
+/// it is for jobs with one client, whose files are of the simplest form. The cost grows with the files and the report.
 ///
-/// The status is 0 where all is done, 3 where a file can't be read, 4 where the schema is refused, 5 where the client is
-/// refused, 6 where the schedule is refused, 10 where a file isn't of the simplest form, 7 where a write failed and 8
-/// where memory was wanting. Where several hold, the first of 3, 4, 5, 6 and 10 is told.
+/// The answer is the number of a status: of all but that of words that are no command line. Where several refusals hold, the first
+/// of unreadable, bad schema, bad script, bad schedule and not built is told. What follows for each status is said in `laws`.
 pub fn replay<F: Files, K: Sink>(alloc: Global, job: &Job, files: &mut F, out: &mut K) -> u8
     requires pages { (1 ≤ job.now.pages) × (job.now.pages ≤ 16384) }
     requires one_client { length job.now.clients ≡ 1 }
-    ensures statuses { Contains (0 ∷ 3 ∷ 4 ∷ 5 ∷ 6 ∷ 7 ∷ 8 ∷ 10 ∷ []) result }
-
-    // 0: the text is the report, and all of it was written.
-    ensures done { result ≡ 0 → Shows (ink_of K.written K.faults out.old out.new)
-        (IsDone (files_of job.now) (sight_of F.told F.asked F.faults files.old files.new)) }
-
-    // 3: exactly where a read failed or a file is too long.
-    ensures unreadable { result ≡ 3 → Shows (ink_of K.written K.faults out.old out.new)
-        (IsUnreadable (files_of job.now) (sight_of F.told F.asked F.faults files.old files.new)) }
-    ensures failed_read { F.faults files.old < F.faults files.new → Contains (3 ∷ 7 ∷ 8 ∷ []) result }
-    ensures too_long { HasTooLong (files_of job.now) (sight_of F.told F.asked F.faults files.old files.new) → Contains (3 ∷ 7 ∷ 8 ∷ []) result }
-
-    // 4: exactly where all files are read and the schema is refused, with its first fault.
-    ensures bad_schema { result ≡ 4 → Shows (ink_of K.written K.faults out.old out.new)
-        (IsBadSchema (files_of job.now) (sight_of F.told F.asked F.faults files.old files.new)) }
-    ensures refused { HasBadSchema (files_of job.now) (sight_of F.told F.asked F.faults files.old files.new) → Contains (3 ∷ 4 ∷ 7 ∷ 8 ∷ []) result }
-
-    // 5: exactly where all files are read, the schema is one and the client is no script for it, with the first line that
-    // is refused.
-    ensures bad_script { result ≡ 5 → Shows (ink_of K.written K.faults out.old out.new)
-        (IsBadScript (files_of job.now) (sight_of F.told F.asked F.faults files.old files.new)) }
-    ensures no_script { HasBadScript (files_of job.now) (sight_of F.told F.asked F.faults files.old files.new) → Contains (3 ∷ 5 ∷ 7 ∷ 8 ∷ []) result }
-
-    // 6: exactly where all files are read, the schema and the client are read, and the schedule is none for one client,
-    // with the first item that is refused.
-    ensures bad_schedule { result ≡ 6 → Shows (ink_of K.written K.faults out.old out.new)
-        (IsBadSchedule (files_of job.now) (sight_of F.told F.asked F.faults files.old files.new)) }
-    ensures no_schedule { HasBadSchedule (files_of job.now) (sight_of F.told F.asked F.faults files.old files.new) → Contains (3 ∷ 6 ∷ 7 ∷ 8 ∷ []) result }
-
-    // 10: never for files of the simplest form.
-    ensures not_built { result ≡ 10 → Shows (ink_of K.written K.faults out.old out.new)
-        (IsNotBuilt (files_of job.now) (sight_of F.told F.asked F.faults files.old files.new)) }
-    ensures plain { ArePlain (files_of job.now) (sight_of F.told F.asked F.faults files.old files.new) → result ≢ 10 }
-
-    // 7: only where a write failed, and a prefix of what was due is written. 8: nothing is written.
-    ensures interrupted { result ≡ 7 → IsInterrupted (files_of job.now) (sight_of F.told F.asked F.faults files.old files.new)
-        (ink_of K.written K.faults out.old out.new) }
-    ensures memory { result ≡ 8 → IsSilent (ink_of K.written K.faults out.old out.new) }
-
-    // The files are asked in order, none twice.
-    ensures asked { AsksFirst (sight_of F.told F.asked F.faults files.old files.new) (files_of job.now) }
-    ensures ends { JobEnds (files_of job.now) (sight_of F.told F.asked F.faults files.old files.new) (ink_of K.written K.faults out.old out.new) result }
+    ensures { ReplayEnds (files_of job.now)
+        (sight_of F.told F.asked F.faults files.old files.new) (ink_of K.written K.faults out.old out.new) result }
 {
-    end(alloc, job, files, out)
+    end(alloc, job, files, out).number()
 }

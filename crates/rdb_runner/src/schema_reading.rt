@@ -5,7 +5,7 @@ ghost use Rattle.std.specs.Bool.{OnTrue, OnFalse};
 ghost use Rattle.rdb_schema.specs.Schemas.{IsSchema};
 ghost use Rattle.rdb_schema.specs.declared.syntax.DdlCause.TheVariants.{NoMemory as WantOfMemory};
 ghost use Rattle.rdb_ddl.specs.Read.{IsRead};
-ghost use Rattle.rdb_runner.specs.SchemaFile.{IsNoSchema};
+ghost use Rattle.rdb_runner.specs.Work.{IsNoSchema};
 
 use rdb_ddl::fault::DdlFault;
 use rdb_ddl::read;

@@ -1,30 +1,26 @@
 //! Writes what is due to the caller's sink, and answers the status.
 
-ghost use Rattle.std.specs.Prelude.{◌≡◌, ◌++◌, ◌⊎◌, codes, IfOk, OnOk, OnErr, string_bytes};
+ghost use Rattle.std.specs.Prelude.{◌≡◌, ◌++◌, codes, IfOk, OnOk, OnErr, string_bytes};
 ghost use Rattle.std.specs.List.{concat};
 ghost use Rattle.rdb_runner.specs.Parts.{script_line, schedule_line};
 ghost use Rattle.rdb_runner.specs.SchemaFile.{fault_line};
-ghost use Rattle.rdb_runner.specs.Telling.{Tells, Writes, IsCutOff, IsSilent, ink_of};
+ghost use Rattle.rdb_runner.specs.Telling.{Tells, MayTell, Writes, IsCutOff, ink_of};
+ghost use Rattle.rdb_runner.specs.declared.status.Status.TheVariants.{Done, Unreadable, BadSchema, BadScript, BadSchedule, NotBuilt};
 
+use crate::status::Status;
 use rdb_base::list::{List, NoMemory};
 use rdb_base::sink::{Sink, WriteFault};
 use rdb_base::text::Text;
 use rdb_ddl::fault::{DdlFault, cause_word};
 use std::alloc::Global;
 
-/// The status of a command whose output was cut off by a failed write.
-pub const CUT_OFF: u8 = 7;
-
-/// The status of a command for which memory was wanting.
-pub const NO_MEMORY: u8 = 8;
-
 /// Writes one piece, and answers this status or that the write failed.
-pub fn tell<K: Sink>(out: &mut K, status: u8, piece: &[u8]) -> u8
+pub fn tell<K: Sink>(out: &mut K, status: Status, piece: &[u8]) -> Status
     ensures { Tells (ink_of K.written K.faults out.old out.new) status piece.now result }
 {
     match out.write(piece) {
         Ok(()) => status,
-        Err(_) => CUT_OFF,
+        Err(_) => Status::CutOff,
     }
 }
 
@@ -36,17 +32,17 @@ fn write_line<K: Sink>(out: &mut K, line: &Text) -> Result<(), WriteFault>
     out.write(line.as_str().as_bytes())
 }
 
-/// Writes the lines, each one piece, and answers 0 or that a write failed. The cost grows with the lines.
-pub fn tell_lines<K: Sink>(out: &mut K, lines: &List<Text>) -> u8
-    ensures { Tells (ink_of K.written K.faults out.old out.new) 0 (concat lines.now) result }
+/// Writes the lines, each one piece, and answers that all is done or that a write failed. The cost grows with the lines.
+pub fn tell_lines<K: Sink>(out: &mut K, lines: &List<Text>) -> Status
+    ensures { Tells (ink_of K.written K.faults out.old out.new) Done (concat lines.now) result }
 {
     for line in lines.as_slice() {
         match write_line(out, line) {
             Ok(()) => {}
-            Err(_) => return CUT_OFF,
+            Err(_) => return Status::CutOff,
         }
     }
-    0
+    Status::Done
 }
 
 /// A line of these words and this name.
@@ -58,14 +54,35 @@ fn line_of(alloc: Global, words: &str, name: &str) -> Result<String, NoMemory>
 
 /// Writes a line of these words and this name, and answers this status, that the write failed, or that memory was
 /// wanting and nothing was written.
-pub fn tell_name<K: Sink>(alloc: Global, out: &mut K, status: u8, words: &str, name: &str) -> u8
-    ensures { Tells (ink_of K.written K.faults out.old out.new) status (words.now ++ name.now ++ codes "\n") result
-        ⊎ ((result ≡ 8) × IsSilent (ink_of K.written K.faults out.old out.new)) }
+fn tell_name<K: Sink>(alloc: Global, out: &mut K, status: Status, words: &str, name: &str) -> Status
+    ensures { MayTell (ink_of K.written K.faults out.old out.new) status (words.now ++ name.now ++ codes "\n") result }
 {
     match line_of(alloc, words, name) {
         Ok(line) => tell(out, status, line.as_bytes()),
-        Err(_) => NO_MEMORY,
+        Err(_) => Status::NoMemory,
     }
+}
+
+/// Tells the file that can't be read.
+pub fn tell_unreadable<K: Sink>(alloc: Global, out: &mut K, name: &str) -> Status
+    ensures { MayTell (ink_of K.written K.faults out.old out.new)
+        Unreadable (codes "regiondb: cannot read " ++ name.now ++ codes "\n") result }
+{
+    tell_name(
+        alloc,
+        out,
+        Status::Unreadable,
+        "regiondb: cannot read ",
+        name,
+    )
+}
+
+/// Tells the file that isn't of the simplest form.
+pub fn tell_not_built<K: Sink>(alloc: Global, out: &mut K, name: &str) -> Status
+    ensures { MayTell (ink_of K.written K.faults out.old out.new)
+        NotBuilt (codes "regiondb: not built " ++ name.now ++ codes "\n") result }
+{
+    tell_name(alloc, out, Status::NotBuilt, "regiondb: not built ", name)
 }
 
 /// The line that tells a schema's fault.
@@ -78,15 +95,14 @@ fn line_of_fault(alloc: Global, fault: &DdlFault) -> Result<String, NoMemory>
     format!(in alloc; "regiondb: schema {line}:{column} {cause}\n")
 }
 
-/// Writes the line of a schema's fault, and answers 4, that the write failed, or that memory was wanting and nothing was
+/// Writes the line of a schema's fault, and answers its status, that the write failed, or that memory was wanting and nothing was
 /// written.
-pub fn tell_fault<K: Sink>(alloc: Global, out: &mut K, fault: &DdlFault) -> u8
-    ensures { Tells (ink_of K.written K.faults out.old out.new) 4 (fault_line fault.now) result
-        ⊎ ((result ≡ 8) × IsSilent (ink_of K.written K.faults out.old out.new)) }
+pub fn tell_fault<K: Sink>(alloc: Global, out: &mut K, fault: &DdlFault) -> Status
+    ensures { MayTell (ink_of K.written K.faults out.old out.new) BadSchema (fault_line fault.now) result }
 {
     match line_of_fault(alloc, fault) {
-        Ok(line) => tell(out, 4, line.as_bytes()),
-        Err(_) => NO_MEMORY,
+        Ok(line) => tell(out, Status::BadSchema, line.as_bytes()),
+        Err(_) => Status::NoMemory,
     }
 }
 
@@ -97,15 +113,14 @@ fn line_of_script(alloc: Global, client: u32, line: u64) -> Result<String, NoMem
     format!(in alloc; "regiondb: script {client} line {line}\n")
 }
 
-/// Writes the line of a client's first line that is refused, and answers 5, that the write failed, or that memory was
+/// Writes the line of a client's first line that is refused, and answers its status, that the write failed, or that memory was
 /// wanting and nothing was written.
-pub fn tell_line<K: Sink>(alloc: Global, out: &mut K, client: u32, line: u64) -> u8
-    ensures { Tells (ink_of K.written K.faults out.old out.new) 5 (script_line client line) result
-        ⊎ ((result ≡ 8) × IsSilent (ink_of K.written K.faults out.old out.new)) }
+pub fn tell_line<K: Sink>(alloc: Global, out: &mut K, client: u32, line: u64) -> Status
+    ensures { MayTell (ink_of K.written K.faults out.old out.new) BadScript (script_line client line) result }
 {
     match line_of_script(alloc, client, line) {
-        Ok(text) => tell(out, 5, text.as_bytes()),
-        Err(_) => NO_MEMORY,
+        Ok(text) => tell(out, Status::BadScript, text.as_bytes()),
+        Err(_) => Status::NoMemory,
     }
 }
 
@@ -116,14 +131,13 @@ fn line_of_item(alloc: Global, item: u64) -> Result<String, NoMemory>
     format!(in alloc; "regiondb: schedule item {item}\n")
 }
 
-/// Writes the line of a schedule's first item that is refused, and answers 6, that the write failed, or that memory was
+/// Writes the line of a schedule's first item that is refused, and answers its status, that the write failed, or that memory was
 /// wanting and nothing was written.
-pub fn tell_item<K: Sink>(alloc: Global, out: &mut K, item: u64) -> u8
-    ensures { Tells (ink_of K.written K.faults out.old out.new) 6 (schedule_line item) result
-        ⊎ ((result ≡ 8) × IsSilent (ink_of K.written K.faults out.old out.new)) }
+pub fn tell_item<K: Sink>(alloc: Global, out: &mut K, item: u64) -> Status
+    ensures { MayTell (ink_of K.written K.faults out.old out.new) BadSchedule (schedule_line item) result }
 {
     match line_of_item(alloc, item) {
-        Ok(text) => tell(out, 6, text.as_bytes()),
-        Err(_) => NO_MEMORY,
+        Ok(text) => tell(out, Status::BadSchedule, text.as_bytes()),
+        Err(_) => Status::NoMemory,
     }
 }

@@ -33,7 +33,8 @@ const FAULTY: &[u8] = b"begin ro\nnew Item {5}\ncommit\n";
 const COUNTING: &[u8] = b"begin rw\ncount Item\ncommit\n";
 
 const REPORT: &[u8] =
-    b"commit 1 client 1 tx 1 begun 0 snapshot 0\n  new Item {7} -> made 1\n  get Item 1 -> {7}\nclosed client 1\nclient 1 done\ntotal commits 1 reads 0 aborts 0 handled 0\n";
+    b"commit 1 client 1 tx 1 begun 0 snapshot 0\n  new Item {7} -> made 1\n  get Item 1 -> {7}\n\
+    closed client 1\nclient 1 done\ntotal commits 1 reads 0 aborts 0 handled 0\n";
 
 /// The number of lines of the report.
 const LINES: u32 = 6;
@@ -115,7 +116,8 @@ fn a_row_of_two_numbers_is_made_and_read(rt: HostRuntime) -> Result<(), Fail> {
     let line = "replay schema schedule client1";
     assert_eq!(rt; status(alloc, line, &mut files, &mut out)?, 0);
     let report =
-        b"commit 1 client 1 tx 1 begun 0 snapshot 0\n  new Pair {1,2} -> made 1\n  get Pair 1 -> {1,2}\nclosed client 1\nclient 1 done\ntotal commits 1 reads 0 aborts 0 handled 0\n";
+        b"commit 1 client 1 tx 1 begun 0 snapshot 0\n  new Pair {1,2} -> made 1\n  get Pair 1 -> {1,2}\n\
+        closed client 1\nclient 1 done\ntotal commits 1 reads 0 aborts 0 handled 0\n";
     assert!(rt; out.bytes() == report.as_slice());
     Ok(())
 }

@@ -6,17 +6,12 @@ use disk::Disk;
 use output::Output;
 use rdb_base::gate::NoGate;
 use rdb_runner::region::region_main;
+use rdb_runner::status::Status;
 use std::process::ExitCode;
 use std::{env, io};
 
 mod disk;
 mod output;
-
-/// The status of words that are no command line. A word that is no UTF-8 is none.
-const NO_COMMAND_LINE: u8 = 2;
-
-/// The status where memory was wanting before the words were read.
-const NO_MEMORY: u8 = 8;
 
 /// The words behind the program's name.
 fn words(rt: &HostRuntime) -> io::Result<Vec<String>> {
@@ -27,22 +22,23 @@ fn words(rt: &HostRuntime) -> io::Result<Vec<String>> {
     Ok(words)
 }
 
+/// A word that is no UTF-8 is no word of a command line.
 fn main(rt: HostRuntime) -> ExitCode {
     let mut output = Output::new(io::writer(&rt));
     let words = match words(&rt) {
         Ok(words) => words,
         Err(error) if error.kind() == io::ErrorKind::OutOfMemory => {
-            return ExitCode::from(NO_MEMORY);
+            return ExitCode::from(Status::NoMemory.number());
         }
-        Err(_) => return ExitCode::from(output.usage(NO_COMMAND_LINE)),
+        Err(_) => return ExitCode::from(output.usage().number()),
     };
     let mut disk = Disk::new(&rt);
-    let status = region_main(
+    let number = region_main(
         rt.alloc(),
         words.as_slice(),
         &mut disk,
         &mut output,
         &NoGate,
     );
-    ExitCode::from(status)
+    ExitCode::from(number)
 }

@@ -2,12 +2,11 @@
 
 ghost use Rattle.std.specs.Prelude.{◌≡◌, ◌⊎◌, None};
 ghost use Rattle.rdb_base.specs.Outside.{Rose};
+ghost use Rattle.rdb_runner.specs.declared.status.Status.TheVariants.{Usage, CutOff};
 
 use rdb_base::sink::{Sink, WriteFault};
+use rdb_runner::status::Status;
 use std::io::Write;
-
-/// The status of a command whose output was cut off.
-const CUT_OFF: u8 = 7;
 
 /// Writes to a writer of the machine, and counts the writes that fail.
 #[derive(Drop)]
@@ -25,13 +24,14 @@ impl<W> Output<W> {
 }
 
 impl<W: Write> Output<W> {
-    /// Writes the line of a faulty command line, and answers this status or that the write failed.
-    pub fn usage(&mut self, status: u8) -> u8
-        ensures { ((result ≡ status) × (self.new.faults ≡ self.old.faults)) ⊎ ((result ≡ 7) × Rose self.old.faults self.new.faults) }
+    /// Writes the line of words that are no command line, and answers that they are none, or that the write failed.
+    pub fn usage(&mut self) -> Status
+        ensures { ((result ≡ Usage) × (self.new.faults ≡ self.old.faults))
+            ⊎ ((result ≡ CutOff) × Rose self.old.faults self.new.faults) }
     {
         match self.write(b"regiondb: usage\n") {
-            Ok(()) => status,
-            Err(_) => CUT_OFF,
+            Ok(()) => Status::Usage,
+            Err(_) => Status::CutOff,
         }
     }
 }

@@ -3,4 +3,4 @@ use Rattle.rdb_journal.specs.Report.{is_read}
 use Rattle.rdb_journal.proofs.summary.reads.Given as goal
 
 abbrev pub invariant-loop-entry : goal.invariant-loop-entry
-invariant-loop-entry l = (l.count ≡ count_by is_read (take l.entry-index l.entry-items)) × (l.count ≤ l.entry-index)
+invariant-loop-entry l = (l.count ≡ count_by is_read (take l.entry-index l.journal)) × (l.count ≤ l.entry-index)

@@ -1,0 +1,11 @@
+-- The first lines of entries.
+use Rattle.std.specs.Prelude.{◌≡◌, ℕ, List, []}
+use Rattle.rdb_base.specs.declared.journal.Entry.{Entry}
+use Rattle.rdb_journal.specs.Lines.{head_line, steps_of}
+use Rattle.rdb_audit.specs.Printed.{IsPrintableHead}
+
+-- the line is the first of an entry, which has no operations yet
+pub record IsHead (line : List ℕ) (e : Entry) : Type 0 where
+  pub text : line ≡ head_line e
+  pub printable : IsPrintableHead e
+  pub bare : steps_of e ≡ []

@@ -1,0 +1,4 @@
+pub mod Printed
+pub mod Heads
+pub mod Grammar
+pub mod Verdicts
