@@ -13,3 +13,4 @@ pub mod IdLemmas
 pub mod ReplyLemmas
 pub mod LineLemmas
 pub mod LastLine
+pub mod VerdictLemmas

@@ -48,3 +48,10 @@ abbrev pub IsAuditFault : Schema → List ℕ → AuditFault → Type 0
 IsAuditFault schema text (audit.BadLine line) = IsFirstBad schema text line
 IsAuditFault schema text (audit.Illegal place why) = IsJudged schema text (legality.Illegal place why)
 IsAuditFault schema text audit.NoMemory = ⊤
+
+-- the answer is this, unless memory was wanting
+abbrev pub IsAnswer : {A : Type 0} → Result A AuditFault → A → Type 0
+IsAnswer (Ok found) meant = found ≡ meant
+IsAnswer (Err (audit.BadLine line)) meant = ⊥
+IsAnswer (Err (audit.Illegal place why)) meant = ⊥
+IsAnswer (Err audit.NoMemory) meant = ⊤

@@ -1,12 +1,14 @@
 //! Judges a report: reads it, and asks whether its journal keeps the law of journals. It touches nothing but the text and the schema that
 //! it is lent, and the memory that it takes.
 
-ghost use Rattle.std.specs.Prelude.{◌<◌, ◌^◌, ℕ, List as Listed, All, length, IfOk, IfErr};
+ghost use Rattle.std.specs.Prelude.{◌<◌, ◌^◌, ℕ, List as Listed, All, Err as Fault, length, IfOk, IfErr};
+ghost use Rattle.rdb_base.specs.declared.journal.Entry.{Entry as Ended};
 ghost use Rattle.rdb_schema.specs.declared.schema.Schema.{Schema as Declared};
 ghost use Rattle.rdb_schema.specs.Schemas.{IsSchema};
 ghost use Rattle.rdb_model.specs.FirstFault.{FitsEntry};
 ghost use Rattle.rdb_audit.specs.Grammar.{IsReport};
-ghost use Rattle.rdb_audit.specs.Verdicts.{IsLegalReport, IsReadFault, IsAuditFault};
+ghost use Rattle.rdb_audit.specs.declared.verdict.Counts.{Counts as Counted};
+ghost use Rattle.rdb_audit.specs.Verdicts.{IsLegalReport, IsReadFault, IsJournalRead, IsAuditFault, IsAnswer};
 
 use crate::reader::{ReadFault, read};
 use crate::tally::counts;
@@ -53,7 +55,8 @@ impl From<NoMemory> for AuditFault {
 
 /// The fault of a text that is no report.
 fn unread(fault: ReadFault) -> AuditFault
-    ensures { (schema : Declared) (text : Listed ℕ) → IsReadFault schema text fault → IsAuditFault schema text result }
+    ensures fault { (schema : Declared) (text : Listed ℕ) → IsReadFault schema text fault → IsAuditFault schema text result }
+    ensures only { (journal : Listed Ended) → IsJournalRead (Fault fault) journal → IsAnswer (Fault result) journal }
 {
     match fault {
         ReadFault::BadLine { line } => AuditFault::BadLine { line },
@@ -66,6 +69,7 @@ fn journal_of(alloc: Global, schema: &Schema, report: &[u8]) -> Result<Entries, 
     requires is_schema { IsSchema schema.now }
     requires short { length report.now < 2 ^ 32 }
     ensures read { IfOk result (IsReport schema.now report.now) }
+    ensures only { (journal : Listed Ended) → IsReport schema.now report.now journal → IsAnswer result journal }
     ensures fits { IfOk result (All (FitsEntry schema.now)) }
     ensures fault { IfErr result (IsAuditFault schema.now report.now) }
 {
@@ -83,6 +87,7 @@ pub fn audit(alloc: Global, schema: &Schema, report: &[u8]) -> Result<Counts, Au
     requires is_schema { IsSchema schema.now }
     requires short { length report.now < 2 ^ 32 }
     ensures legal { IfOk result (IsLegalReport schema.now report.now) }
+    ensures only { (counts : Counted) → IsLegalReport schema.now report.now counts → IsAnswer result counts }
     ensures fault { IfErr result (IsAuditFault schema.now report.now) }
 {
     let journal = journal_of(alloc, schema, report)?;

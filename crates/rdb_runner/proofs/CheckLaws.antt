@@ -1,7 +1,7 @@
 -- What follows from how a check ends, status by status.
 use Rattle.std.proofs.Common.{◌≡◌, ℕ, lit<, ◌<◌, List, [], ◌∷◌, sym, arith}
 use Rattle.rdb_runner.specs.declared.status.Status.{Status}
-use Rattle.rdb_runner.specs.declared.status.Status.TheVariants.{Done, Usage, Unreadable, BadSchema, BadScript, BadSchedule, CutOff, NoMemory, NotBuilt}
+use Rattle.rdb_runner.specs.declared.status.Status.TheVariants.{Done, Usage, Unreadable, BadSchema, BadScript, BadSchedule, CutOff, NoMemory, BadReport, NotBuilt}
 use Rattle.rdb_runner.specs.Ending.{Told}
 use Rattle.rdb_runner.specs.Promise.{CheckOwes, CheckEnds, IsCheckCutOff}
 use Rattle.rdb_runner.specs.Reading.{Sight, IsUnreadable, HasTooLong}
@@ -32,6 +32,7 @@ module _ (name : List ℕ) (sight : Sight) (ink : Ink) (answer : ℕ) (end : Che
       by_status BadSchedule is told = absurd told.1
       by_status CutOff is told = cut is
       by_status NoMemory is told = silent is
+      by_status BadReport is told = absurd told.1
       by_status NotBuilt is told = absurd told.1
 
   pub check_statuses : IsOneOf (Done ∷ Unreadable ∷ BadSchema ∷ CutOff ∷ NoMemory ∷ []) answer

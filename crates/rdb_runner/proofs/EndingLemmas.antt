@@ -4,7 +4,7 @@ use Rattle.std.specs.Option.{option_map}
 use Rattle.std.proofs.lemmas.List.{append-nil}
 use Rattle.std.specs.Prelude.{◌==◌, if◌then◌else◌}
 use Rattle.rdb_runner.specs.declared.status.Status.{Status}
-use Rattle.rdb_runner.specs.declared.status.Status.TheVariants.{Done, Usage, Unreadable, BadSchema, BadScript, BadSchedule, CutOff, NoMemory, NotBuilt}
+use Rattle.rdb_runner.specs.declared.status.Status.TheVariants.{Done, Usage, Unreadable, BadSchema, BadScript, BadSchedule, CutOff, NoMemory, BadReport, NotBuilt}
 use Rattle.rdb_runner.specs.Ending.{Told, Ends}
 use Rattle.rdb_runner.specs.Reading.{Sight, AsksFirst}
 use Rattle.rdb_runner.specs.Statuses.{number_of}
@@ -21,6 +21,7 @@ status_at n =
     else if n == 6 then BadSchedule
     else if n == 7 then CutOff
     else if n == 8 then NoMemory
+    else if n == 9 then BadReport
     else NotBuilt
 
 at_number : (s : Status) → status_at (number_of s) ≡ s
@@ -32,6 +33,7 @@ at_number BadScript = refl
 at_number BadSchedule = refl
 at_number CutOff = refl
 at_number NoMemory = refl
+at_number BadReport = refl
 at_number NotBuilt = refl
 
 -- each number is that of one status

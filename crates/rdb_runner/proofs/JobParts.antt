@@ -16,7 +16,8 @@ use Rattle.rdb_runner.specs.PlainPromise.{IsFirstOther, ArePlain}
 use Rattle.rdb_runner.specs.Reading.{Sight, AreBytesOf, IsBytesOf, AllRead}
 use Rattle.rdb_runner.specs.SchemaFile.{IsBadSchema}
 
-bytes_told : (told : List ℕ → Option (List ℕ)) (name text there : List ℕ) → IsBytesOf told name text → told name ≡ Some there → text ≡ there
+-- bytes that were read are those that are told
+pub bytes_told : (told : List ℕ → Option (List ℕ)) (name text there : List ℕ) → IsBytesOf told name text → told name ≡ Some there → text ≡ there
 bytes_told told name text there h is = subst (λ (o : Option (List ℕ)). IfSome o (λ x. text ≡ x)) is h.0
 
 -- the bytes of three named files

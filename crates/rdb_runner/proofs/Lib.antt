@@ -1,4 +1,6 @@
 pub mod AskedFor
+pub mod AuditLaws
+pub mod AuditLemmas
 pub mod BadSchema
 pub mod CheckLaws
 pub mod CheckLemmas

@@ -3,7 +3,7 @@ use Rattle.std.proofs.Common.{◌≡◌, ℕ, zero, suc, lit<, ◌<◌, ◌≤�
 use Rattle.std.specs.Prelude.{IfSome, slice_get}
 use Rattle.rdb_runner.specs.declared.reading.TheConstants.{FILE_LIMIT}
 use Rattle.rdb_runner.specs.declared.status.Status.{Status}
-use Rattle.rdb_runner.specs.declared.status.Status.TheVariants.{Done, Usage, Unreadable, BadSchema, BadScript, BadSchedule, CutOff, NoMemory, NotBuilt}
+use Rattle.rdb_runner.specs.declared.status.Status.TheVariants.{Done, Usage, Unreadable, BadSchema, BadScript, BadSchedule, CutOff, NoMemory, BadReport, NotBuilt}
 use Rattle.rdb_runner.specs.Ending.{Told}
 use Rattle.rdb_runner.specs.Parts.{IsBadScript, IsBadSchedule, HasBadScript, HasBadSchedule}
 use Rattle.rdb_runner.specs.PlainPromise.{IsNotBuilt, ArePlain}
@@ -70,6 +70,7 @@ module _ (names : List (List ℕ)) (sight : Sight) (ink : Ink) (answer : ℕ) (e
       by_status BadSchedule is told = bad_schedule is told
       by_status CutOff is told = cut is
       by_status NoMemory is told = silent is
+      by_status BadReport is told = absurd told.1
       by_status NotBuilt is told = other is told
 
   pub replay_statuses : IsOneOf (Done ∷ Unreadable ∷ BadSchema ∷ BadScript ∷ BadSchedule ∷ CutOff ∷ NoMemory ∷ NotBuilt ∷ []) answer
@@ -103,6 +104,10 @@ module _ (names : List (List ℕ)) (sight : Sight) (ink : Ink) (answer : ℕ) (e
   -- no replay ends with the usage
   pub replay_not_usage : answer ≡ number_of Usage → ⊥
   replay_not_usage is = (told_as names (ReplayOwes names sight) sight ink answer end Usage is).1
+
+  -- nor with a bad report
+  pub replay_not_bad_report : answer ≡ number_of BadReport → ⊥
+  replay_not_bad_report is = (told_as names (ReplayOwes names sight) sight ink answer end BadReport is).1
 
   pub replay_failed_read : sight.faults < sight.faults_then → IsOneOf (Unreadable ∷ CutOff ∷ NoMemory ∷ []) answer
   replay_failed_read rose = by_replay

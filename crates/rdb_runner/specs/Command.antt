@@ -2,10 +2,11 @@
 use Rattle.std.specs.Prelude.{◌≡◌, ℕ, ◌⊎◌, List, [], ◌∷◌, ◌++◌, codes}
 use Rattle.rdb_runner.specs.declared.status.Status.{Status}
 use Rattle.rdb_runner.specs.declared.status.Status.TheVariants.{Usage, NoMemory, NotBuilt}
+use Rattle.rdb_runner.specs.AuditFile.{audit_names}
 use Rattle.rdb_runner.specs.CommandLine.{Word, Command, replay, run, audit, check, job, IsCommandLine, word_of}
 use Rattle.rdb_runner.specs.Ending.{Ends, Never}
 use Rattle.rdb_runner.specs.Parts.{names_of}
-use Rattle.rdb_runner.specs.Promise.{ReplayOwes, CheckOwes}
+use Rattle.rdb_runner.specs.Promise.{ReplayOwes, AuditOwes, CheckOwes}
 use Rattle.rdb_runner.specs.Reading.{Sight, AsksFirst}
 use Rattle.rdb_runner.specs.Statuses.{number_of}
 use Rattle.rdb_runner.specs.Telling.{Ink, IsCutOff}
@@ -22,10 +23,11 @@ usage_line = codes "regiondb: usage\n"
 abbrev pub not_built_line : Command → List ℕ
 not_built_line command = codes "regiondb: not built " ++ word_of command ++ codes "\n"
 
--- what a command reads files for: a job's replay, by its files' names, or the check of a schema; other commands, and
--- replays without exactly one client, aren't built yet
+-- what a command reads files for: a job's replay, by its files' names, the audit of a report, or the check of a schema; other
+-- commands, and replays without exactly one client, aren't built yet
 pub data Task : Type 0 where
   replays : (names : List Word) → Task
+  audits : (schema report : Word) → Task
   checks : (name : Word) → Task
   unbuilt : Task
 
@@ -34,13 +36,14 @@ task_of (replay settings schema schedule []) = unbuilt
 task_of (replay settings schema schedule (client ∷ [])) = replays (names_of schema schedule client)
 task_of (replay settings schema schedule (client ∷ other ∷ clients)) = unbuilt
 task_of (run settings schema clients) = unbuilt
-task_of (audit schema report) = unbuilt
+task_of (audit schema report) = audits schema report
 task_of (check schema) = checks schema
 task_of (job seed with_threads) = unbuilt
 
 -- the files that a task reads, in order
 abbrev pub files_of_task : Task → List Word
 files_of_task (replays names) = names
+files_of_task (audits schema report) = audit_names schema report
 files_of_task (checks name) = name ∷ []
 files_of_task unbuilt = []
 
@@ -61,6 +64,7 @@ UnbuiltOwes command sight _ = Never
 -- a command owes what its task owes, or that it isn't built
 abbrev pub CommandOwes : Command → Task → Sight → Status → List ℕ → Type 0
 CommandOwes command (replays names) sight = ReplayOwes names sight
+CommandOwes command (audits schema report) sight = AuditOwes schema report sight
 CommandOwes command (checks name) sight = CheckOwes name sight
 CommandOwes command unbuilt sight = UnbuiltOwes command sight
 
@@ -68,12 +72,14 @@ CommandOwes command unbuilt sight = UnbuiltOwes command sight
 abbrev pub TaskEnds : Command → Task → Sight → Ink → ℕ → Type 0
 TaskEnds command task sight ink answer = Ends (files_of_task task) (CommandOwes command task sight) sight ink answer
 
--- How a command ends: a replay of one client as `replay` promises, a check as `check` promises, others as not built.
+-- How a command ends: a replay of one client as `replay` promises, an audit as `audit_file` promises, a check as `check` promises,
+-- others as not built.
 abbrev pub CommandEnds : Command → Sight → Ink → ℕ → Type 0
 CommandEnds command sight ink answer = TaskEnds command (task_of command) sight ink answer
 
 abbrev pub IsBuilt : Task → Type 0
 IsBuilt (replays names) = Unit {0}
+IsBuilt (audits schema report) = Unit {0}
 IsBuilt (checks name) = Unit {0}
 IsBuilt unbuilt = ⊥
 
@@ -102,13 +108,20 @@ WordsOwe words sight status text =
 abbrev pub AsksFor : List Word → List Word → Type 0
 AsksFor words names = (command : Command) × IsCommandLine words command × (task_of command ≡ replays names)
 
+-- the words ask for the audit of the report in the second of these files, for the schema in the first
+abbrev pub AsksToAudit : List Word → Word → Word → Type 0
+AsksToAudit words schema report = (command : Command) × IsCommandLine words command × (task_of command ≡ audits schema report)
+
 -- the words ask for the check of the schema in this file
 abbrev pub AsksToCheck : List Word → Word → Type 0
 AsksToCheck words name = (command : Command) × IsCommandLine words command × (task_of command ≡ checks name)
 
 -- the words ask for a command that reads these files
 abbrev pub AsksForFiles : List Word → List Word → Type 0
-AsksForFiles words names = AsksFor words names ⊎ ((name : Word) × AsksToCheck words name × (names ≡ name ∷ []))
+AsksForFiles words names =
+    AsksFor words names
+    ⊎ ((schema report : Word) × AsksToAudit words schema report × (names ≡ audit_names schema report))
+    ⊎ ((name : Word) × AsksToCheck words name × (names ≡ name ∷ []))
 
 -- the words ask for a command that isn't built, and this is its line
 abbrev pub AsksForOther : List Word → List ℕ → Type 0

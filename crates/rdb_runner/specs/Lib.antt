@@ -1,3 +1,4 @@
+pub mod AuditFile
 pub mod Command
 pub mod CommandLine
 pub mod Ending

@@ -1,7 +1,8 @@
 -- What the commands promise: which text is due with which status, and how each command ends.
 use Rattle.std.specs.Prelude.{ℕ, List, [], ◌∷◌}
 use Rattle.rdb_runner.specs.declared.status.Status.{Status}
-use Rattle.rdb_runner.specs.declared.status.Status.TheVariants.{Done, Unreadable, BadSchema, BadScript, BadSchedule, NotBuilt}
+use Rattle.rdb_runner.specs.declared.status.Status.TheVariants.{Done, Unreadable, BadSchema, BadScript, BadSchedule, BadReport, NotBuilt}
+use Rattle.rdb_runner.specs.AuditFile.{audit_names, IsAudited, IsBadReport}
 use Rattle.rdb_runner.specs.Ending.{Ends, Never}
 use Rattle.rdb_runner.specs.Parts.{names_of, IsBadScript, IsBadSchedule}
 use Rattle.rdb_runner.specs.PlainPromise.{IsNotBuilt}
@@ -47,3 +48,19 @@ CheckEnds name sight ink answer = Ends (name ∷ []) (CheckOwes name sight) sigh
 -- a write failed, and what was written is a prefix of a text that was due
 abbrev pub IsCheckCutOff : List ℕ → Sight → Ink → Type 0
 IsCheckCutOff name sight ink = (status : Status) × (text : List ℕ) × CheckOwes name sight status text × IsCutOff ink text
+
+-- what the audit of the report in the second file owes, by the status
+abbrev pub AuditOwes : List ℕ → List ℕ → Sight → Status → List ℕ → Type 0
+AuditOwes schema report sight Done = IsAudited schema report sight
+AuditOwes schema report sight Unreadable = IsUnreadable (audit_names schema report) sight
+AuditOwes schema report sight BadSchema = IsBadSchema (audit_names schema report) sight
+AuditOwes schema report sight BadReport = IsBadReport schema report sight
+AuditOwes schema report sight _ = Never
+
+-- How the audit of the report in the second file ends.
+abbrev pub AuditEnds : List ℕ → List ℕ → Sight → Ink → ℕ → Type 0
+AuditEnds schema report sight ink answer = Ends (audit_names schema report) (AuditOwes schema report sight) sight ink answer
+
+-- a write failed, and what was written is a prefix of a text that was due
+abbrev pub IsAuditCutOff : List ℕ → List ℕ → Sight → Ink → Type 0
+IsAuditCutOff schema report sight ink = (status : Status) × (text : List ℕ) × AuditOwes schema report sight status text × IsCutOff ink text

@@ -1,7 +1,7 @@
 -- The numbers of the statuses.
 use Rattle.std.specs.Prelude.{ℕ, List, map, Contains}
 use Rattle.rdb_runner.specs.declared.status.Status.{Status}
-use Rattle.rdb_runner.specs.declared.status.Status.TheVariants.{Done, Usage, Unreadable, BadSchema, BadScript, BadSchedule, CutOff, NoMemory, NotBuilt}
+use Rattle.rdb_runner.specs.declared.status.Status.TheVariants.{Done, Usage, Unreadable, BadSchema, BadScript, BadSchedule, CutOff, NoMemory, BadReport, NotBuilt}
 
 -- the number of each status
 abbrev pub number_of : Status → ℕ
@@ -13,6 +13,7 @@ number_of BadScript = 5
 number_of BadSchedule = 6
 number_of CutOff = 7
 number_of NoMemory = 8
+number_of BadReport = 9
 number_of NotBuilt = 10
 
 -- the answer is the number of one of these statuses

@@ -4,12 +4,16 @@ use Rattle.std.specs.List.{concat}
 use Rattle.rdb_schema.specs.declared.schema.Schema.{Schema}
 use Rattle.rdb_ddl.specs.Canonical.{canonical}
 use Rattle.rdb_ddl.specs.Read.{IsRead, IsRefused}
+use Rattle.rdb_audit.specs.declared.verdict.Counts.{Counts}
+use Rattle.rdb_runner.specs.declared.audit.Unaudited.{Unaudited}
+use Rattle.rdb_runner.specs.declared.audit.Unaudited.TheVariants as un
 use Rattle.rdb_runner.specs.declared.check.Unchecked.{Unchecked}
 use Rattle.rdb_runner.specs.declared.check.Unchecked.TheVariants as no
 use Rattle.rdb_runner.specs.declared.halt.Halt.{Halt}
 use Rattle.rdb_runner.specs.declared.halt.Halt.TheVariants as halt
 use Rattle.rdb_runner.specs.declared.schema_reading.NoSchema.{NoSchema}
 use Rattle.rdb_runner.specs.declared.schema_reading.NoSchema.TheVariants as none
+use Rattle.rdb_runner.specs.AuditFile.{audit_names, bad_line, illegal_line, IsLegalFor, IsFaultyFor}
 use Rattle.rdb_runner.specs.Parts.{names_of, IsRefusedScript, IsRefusedSchedule, HasRefusedScript, HasRefusedSchedule}
 use Rattle.rdb_runner.specs.PlainPromise.{IsFirstOther}
 use Rattle.rdb_runner.specs.PlainReport.{IsReportOf}
@@ -64,3 +68,23 @@ IsCheckWork name sight (Ok text) = IsChecked name sight text
 IsCheckWork name sight (Err no.Unreadable) = CannotRead sight name × Asks sight (name ∷ [])
 IsCheckWork name sight (Err (no.Refused fault)) = (there : List ℕ) × AllRead sight (name ∷ []) (there ∷ []) × IsRefused there fault
 IsCheckWork name sight (Err no.NoMemory) = sight.faults_then ≡ sight.faults
+
+-- what a schema's text and a report's give: the counts of the entries, the schema's first fault, or what is wrong with the report
+abbrev pub IsAudit : List ℕ → List ℕ → Result Counts Unaudited → Type 0
+IsAudit schema report (Ok counts) = IsLegalFor schema report counts
+IsAudit schema report (Err (un.Unreadable place)) = ⊥
+IsAudit schema report (Err (un.BadSchema fault)) = IsRefused schema fault
+IsAudit schema report (Err (un.BadLine line)) = IsFaultyFor schema report (bad_line line)
+IsAudit schema report (Err (un.Illegal entry why)) = IsFaultyFor schema report (illegal_line entry why)
+IsAudit schema report (Err un.NoMemory) = Unit {0}
+
+-- what the work of an audit gives: the first file that can't be read, or what the files' texts give
+abbrev pub IsAuditWork : List ℕ → List ℕ → Sight → Result Counts Unaudited → Type 0
+IsAuditWork schema report sight (Err (un.Unreadable place)) =
+    (name : List ℕ) × (texts : List (List ℕ)) × (slice_get (audit_names schema report) place ≡ Some name)
+    × AreBytesOf sight.told (take place (audit_names schema report)) texts × CannotRead sight name
+    × Asks sight (take (place + 1) (audit_names schema report))
+IsAuditWork schema report sight (Err un.NoMemory) = sight.faults_then ≡ sight.faults
+IsAuditWork schema report sight result =
+    (schema_text report_text : List ℕ) × AllRead sight (audit_names schema report) (schema_text ∷ report_text ∷ [])
+    × IsAudit schema_text report_text result

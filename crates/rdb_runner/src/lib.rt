@@ -1,6 +1,9 @@
 //! The commands of the program, over files and a sink that the caller gives.
 #![tactic(auto)]
 
+pub mod audit;
+#[cfg(test)]
+mod audit_tests;
 pub mod check;
 pub mod command_line;
 #[cfg(test)]

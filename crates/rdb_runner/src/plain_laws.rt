@@ -3,7 +3,7 @@
 
 ghost use Rattle.std.specs.Prelude.{◌≡◌, ◌≢◌, ℕ, List, ◌⊎◌};
 ghost use Rattle.rdb_runner.specs.declared.status.Status.TheVariants.{NotBuilt};
-ghost use Rattle.rdb_runner.specs.Command.{WordsEnd, AsksFor, AsksToCheck, AsksForOther};
+ghost use Rattle.rdb_runner.specs.Command.{WordsEnd, AsksFor, AsksToAudit, AsksToCheck, AsksForOther};
 ghost use Rattle.rdb_runner.specs.CommandLine.{Word};
 ghost use Rattle.rdb_runner.specs.PlainPromise.{IsNotBuilt, ArePlain};
 ghost use Rattle.rdb_runner.specs.Promise.{ReplayEnds};
@@ -27,6 +27,8 @@ pub fn plain_words_are_built()
         ⊎ ((names : List Word) × AsksFor words names × Shows ink (IsNotBuilt names sight)) }
     ensures plain { (words names : List Word) (sight : Sight) (ink : Ink) (answer : ℕ) → WordsEnd words sight ink answer →
         AsksFor words names → ArePlain names sight → answer ≢ number_of NotBuilt }
+    ensures audit_is_built { (words : List Word) (schema report : Word) (sight : Sight) (ink : Ink) (answer : ℕ) →
+        WordsEnd words sight ink answer → AsksToAudit words schema report → answer ≢ number_of NotBuilt }
     ensures check_is_built { (words : List Word) (name : Word) (sight : Sight) (ink : Ink) (answer : ℕ) → WordsEnd words sight ink answer →
         AsksToCheck words name → answer ≢ number_of NotBuilt }
 {}

@@ -12,6 +12,7 @@ ghost use Rattle.rdb_runner.specs.Telling.{Tells, ink_of};
 ghost use Rattle.rdb_runner.specs.declared.status.Status.TheVariants.{NoMemory as WantOfMemory};
 ghost use Rattle.rdb_runner.specs.declared.status.Status.{Status as Outcome};
 
+use crate::audit::audit_file;
 use crate::check::check;
 use crate::command_line::{self, CommandLine, Settings};
 use crate::replay::{Job, replay};
@@ -106,9 +107,9 @@ fn end_command<F: Files, K: Sink>(
             Some(client) => replay_job(alloc, *settings, schema, schedule, client, files, out),
             None => answer(out, Status::NotBuilt, b"regiondb: not built replay\n"),
         },
+        CommandLine::Audit { schema, report } => audit_file(alloc, schema, report, files, out),
         CommandLine::Check { schema } => check(alloc, schema, files, out),
         CommandLine::Run { .. } => answer(out, Status::NotBuilt, b"regiondb: not built run\n"),
-        CommandLine::Audit { .. } => answer(out, Status::NotBuilt, b"regiondb: not built audit\n"),
         CommandLine::Job { .. } => answer(out, Status::NotBuilt, b"regiondb: not built job\n"),
     }
 }
@@ -125,8 +126,8 @@ fn end_words<F: Files, K: Sink>(alloc: Global, words: &[String], files: &mut F, 
 }
 
 /// Does what the words of a command line ask for, over these files and this sink, and answers the number of a status. Where several
-/// refusals hold, the first of usage, unreadable, bad schema, bad script, bad schedule and not built is told. What follows for each
-/// status is said in `laws`. It always returns. The cost grows with the files.
+/// refusals hold, the first of usage, unreadable, bad schema, bad script, bad schedule, bad report and not built is told. What follows for
+/// each status is said in `laws`. It always returns. The cost grows with the files.
 pub fn region_main<F: Files, K: Sink, G: Gate + Sync>(
     alloc: Global,
     words: &[String],

@@ -5,8 +5,8 @@
 //! | 0      | done           | 6      | bad schedule      |
 //! | 2      | usage          | 7      | cut off           |
 //! | 3      | unreadable     | 8      | want of memory    |
-//! | 4      | bad schema     | 10     | not built         |
-//! | 5      | bad script     |        |                   |
+//! | 4      | bad schema     | 9      | bad report        |
+//! | 5      | bad script     | 10     | not built         |
 ghost use Rattle.std.specs.Prelude.{◌≡◌};
 ghost use Rattle.rdb_runner.specs.Statuses.{number_of};
 
@@ -29,6 +29,8 @@ pub enum Status {
     CutOff,
     /// Memory was wanting.
     NoMemory,
+    /// A text is no report, or its journal isn't legal.
+    BadReport,
     /// The command, or the form of a file, isn't built yet.
     NotBuilt,
 }
@@ -47,6 +49,7 @@ impl Status {
             Status::BadSchedule => 6,
             Status::CutOff => 7,
             Status::NoMemory => 8,
+            Status::BadReport => 9,
             Status::NotBuilt => 10,
         }
     }

@@ -2,16 +2,19 @@
 
 ghost use Rattle.std.specs.Prelude.{◌≡◌, ◌++◌, codes, IfOk, OnOk, OnErr, string_bytes};
 ghost use Rattle.std.specs.List.{concat};
+ghost use Rattle.rdb_runner.specs.AuditFile.{counts_line, bad_line, words_of, illegal_line};
 ghost use Rattle.rdb_runner.specs.Parts.{script_line, schedule_line};
 ghost use Rattle.rdb_runner.specs.SchemaFile.{fault_line};
 ghost use Rattle.rdb_runner.specs.Telling.{Tells, MayTell, Writes, IsCutOff, ink_of};
-ghost use Rattle.rdb_runner.specs.declared.status.Status.TheVariants.{Done, Unreadable, BadSchema, BadScript, BadSchedule, NotBuilt};
+ghost use Rattle.rdb_runner.specs.declared.status.Status.TheVariants.{Done, Unreadable, BadSchema, BadScript, BadSchedule, BadReport, NotBuilt};
 
 use crate::status::Status;
+use rdb_audit::verdict::Counts;
 use rdb_base::list::{List, NoMemory};
 use rdb_base::sink::{Sink, WriteFault};
 use rdb_base::text::Text;
 use rdb_ddl::fault::{DdlFault, cause_word};
+use rdb_model::legality::Why;
 use std::alloc::Global;
 
 /// Writes one piece, and answers this status or that the write failed.
@@ -138,6 +141,81 @@ pub fn tell_item<K: Sink>(alloc: Global, out: &mut K, item: u64) -> Status
 {
     match line_of_item(alloc, item) {
         Ok(text) => tell(out, Status::BadSchedule, text.as_bytes()),
+        Err(_) => Status::NoMemory,
+    }
+}
+
+/// The line of a report's counts.
+fn line_of_counts(alloc: Global, counts: &Counts) -> Result<String, NoMemory>
+    ensures { IfOk result (λ text. string_bytes text ≡ counts_line counts.now) }
+{
+    let commits = counts.commits;
+    let reads = counts.reads;
+    let aborts = counts.aborts;
+    let handled = counts.handled;
+    let closed = counts.closed;
+    format!(in alloc;
+        "audit commits {commits} reads {reads} aborts {aborts} handled {handled} closed {closed}\n"
+    )
+}
+
+/// Writes the line of a report's counts, and answers that all is done, that the write failed, or that memory was wanting and nothing was
+/// written.
+pub fn tell_counts<K: Sink>(alloc: Global, out: &mut K, counts: &Counts) -> Status
+    ensures { MayTell (ink_of K.written K.faults out.old out.new) Done (counts_line counts.now) result }
+{
+    match line_of_counts(alloc, counts) {
+        Ok(text) => tell(out, Status::Done, text.as_bytes()),
+        Err(_) => Status::NoMemory,
+    }
+}
+
+/// The line that tells a report's first bad line.
+fn line_of_report(alloc: Global, line: u64) -> Result<String, NoMemory>
+    ensures { IfOk result (λ text. string_bytes text ≡ bad_line line) }
+{
+    format!(in alloc; "regiondb: audit line {line}\n")
+}
+
+/// Writes the line of a report's first bad line, and answers its status, that the write failed, or that memory was wanting and nothing was
+/// written.
+pub fn tell_bad_line<K: Sink>(alloc: Global, out: &mut K, line: u64) -> Status
+    ensures { MayTell (ink_of K.written K.faults out.old out.new) BadReport (bad_line line) result }
+{
+    match line_of_report(alloc, line) {
+        Ok(text) => tell(out, Status::BadReport, text.as_bytes()),
+        Err(_) => Status::NoMemory,
+    }
+}
+
+/// The words for the part of the law of journals that an entry breaks.
+fn words_of(alloc: Global, why: Why) -> Result<String, NoMemory>
+    ensures { IfOk result (λ text. string_bytes text ≡ words_of why) }
+{
+    match why {
+        Why::Number => String::from_str(alloc, "number"),
+        Why::Twice => String::from_str(alloc, "twice"),
+        Why::Place => String::from_str(alloc, "place"),
+        Why::Reply { operation } => format!(in alloc; "reply {operation}"),
+    }
+}
+
+/// The line that tells a journal's first illegal entry.
+fn line_of_entry(alloc: Global, entry: u64, why: Why) -> Result<String, NoMemory>
+    ensures { IfOk result (λ text. string_bytes text ≡ illegal_line entry why) }
+{
+    let words = words_of(alloc, why)?;
+    let words = words.as_str();
+    format!(in alloc; "regiondb: audit entry {entry} {words}\n")
+}
+
+/// Writes the line of a journal's first illegal entry, and answers its status, that the write failed, or that memory was wanting and
+/// nothing was written.
+pub fn tell_illegal<K: Sink>(alloc: Global, out: &mut K, entry: u64, why: Why) -> Status
+    ensures { MayTell (ink_of K.written K.faults out.old out.new) BadReport (illegal_line entry why) result }
+{
+    match line_of_entry(alloc, entry, why) {
+        Ok(text) => tell(out, Status::BadReport, text.as_bytes()),
         Err(_) => Status::NoMemory,
     }
 }

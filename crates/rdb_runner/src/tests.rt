@@ -67,7 +67,8 @@ fn files(alloc: Global, failing: &[u32]) -> Result<MemoryFiles, NoMemory> {
     Ok(files)
 }
 
-fn status<F: Files, K: Sink>(
+/// What the words of this line answer over these files and this sink.
+pub fn status<F: Files, K: Sink>(
     alloc: Global,
     line: &str,
     files: &mut F,
@@ -191,7 +192,18 @@ fn each_refusal_has_its_status_and_line(rt: HostRuntime) -> Result<(), Fail> {
         ),
         ("replay schema schedule", 10, "regiondb: not built replay\n"),
         ("run schema client1", 10, "regiondb: not built run\n"),
-        ("audit schema schedule", 10, "regiondb: not built audit\n"),
+        ("audit schema schedule", 9, "regiondb: audit line 1\n"),
+        (
+            "audit broken schedule",
+            4,
+            "regiondb: schema 1:9 unexpected\n",
+        ),
+        (
+            "audit nothing client1",
+            3,
+            "regiondb: cannot read nothing\n",
+        ),
+        ("audit broken nothing", 3, "regiondb: cannot read nothing\n"),
         ("check nothing", 3, "regiondb: cannot read nothing\n"),
         ("check broken", 4, "regiondb: schema 1:9 unexpected\n"),
         ("job --threads 7", 10, "regiondb: not built job\n"),

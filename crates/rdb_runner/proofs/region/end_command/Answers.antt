@@ -1,6 +1,6 @@
 use Rattle.std.proofs.Common.{◌≡◌, [], ◌∷◌, refl, sym, ap, ◌∙◌, subst, length}
 use Rattle.rdb_runner.specs.Command.{CommandEnds, IsBuilt, task_of}
-use Rattle.rdb_runner.specs.CommandLine.{replay, run, audit, job, texts}
+use Rattle.rdb_runner.specs.CommandLine.{replay, run, job, texts}
 use Rattle.rdb_runner.specs.Reading.{sight_of}
 use Rattle.rdb_runner.specs.Telling.{ink_of}
 use Rattle.rdb_runner.proofs.CommandLemmas.{unbuilt_ends, unbuilt_is_no_want, not_one_client}
@@ -42,12 +42,10 @@ pub returns-in-Run-clause-memory : goal.returns-in-Run-clause-memory
 returns-in-Run-clause-memory g c = λ wants. absurd (unbuilt_is_no_want _ _ _ c.answer-in-Run.ensures wants)
 
 pub returns-in-Audit-clause-ends : goal.returns-in-Audit-clause-ends
-returns-in-Audit-clause-ends g c =
-    let line = c.in-Audit in
-    rw line.is (unbuilt_ends (audit line.schema.now line.report.now) _ _ _ refl (refl, refl) c.answer-in-Audit.ensures)
+returns-in-Audit-clause-ends g c = rw c.in-Audit.is c.audit_file.ensures
 
 pub returns-in-Audit-clause-memory : goal.returns-in-Audit-clause-memory
-returns-in-Audit-clause-memory g c = λ wants. absurd (unbuilt_is_no_want _ _ _ c.answer-in-Audit.ensures wants)
+returns-in-Audit-clause-memory g c = rw c.in-Audit.is (λ wants. tt)
 
 pub returns-in-Job-clause-ends : goal.returns-in-Job-clause-ends
 returns-in-Job-clause-ends g c =
