@@ -102,10 +102,10 @@ module _ (schema report : List ℕ) (sight : Sight) (ink : Ink) (answer : ℕ) (
 
   pub audit_too_long : HasTooLong (audit_names schema report) sight → IsOneOf (Unreadable ∷ CutOff ∷ NoMemory ∷ []) answer
   audit_too_long (place, n, there, at, is, long) = by_audit
-      (λ r h. let short = told_within sight.told (audit_names schema report) _ place n there h.1.3.0 at is in absurd (omega arith))
-      (λ r h. (0, lit< tt, sym r))
-      (λ r h. let short = told_within sight.told (audit_names schema report) _ place n there h.1.3.0 at is in absurd (omega arith))
-      (λ r h. let short = told_within sight.told (audit_names schema report) _ place n there h.1.2.0 at is in absurd (omega arith))
+      (λ r s. let h = s.1 in let short = told_within sight.told (audit_names schema report) (h.0 ∷ h.1 ∷ []) place n there h.3.0 at is in absurd (omega arith))
+      (λ r s. (0, lit< tt, sym r))
+      (λ r s. let h = s.1 in let short = told_within sight.told (audit_names schema report) (h.0 ∷ h.1) place n there h.3.0 at is in absurd (omega arith))
+      (λ r s. let h = s.1 in let short = told_within sight.told (audit_names schema report) (h.0 ∷ h.1 ∷ []) place n there h.2.0 at is in absurd (omega arith))
       (λ r. (1, lit< tt, sym r)) (λ r. (2, lit< tt, sym r))
 
   pub audit_refused : HasBadSchema (audit_names schema report) sight → IsOneOf (Unreadable ∷ BadSchema ∷ CutOff ∷ NoMemory ∷ []) answer
