@@ -1,5 +1,5 @@
 -- A plain line's operation fits a plain schema, and its reply names nothing that the schema lacks.
-use Rattle.std.proofs.Common.{◌≡◌, ℕ, zero, suc, ◌≤◌, Bool, true, List, length, Option, Some, None, refl, sym, ap, subst, lit<, lit≤}
+use Rattle.std.proofs.Common.{◌≡◌, ℕ, true, length, Option, Some, None, refl, sym, ap, subst, lit<}
 use Rattle.std.specs.Prelude.{IsTrue}
 use Rattle.std.specs.Option.{option_map_or}
 use Rattle.std.proofs.Math.ListN.{length-set}
@@ -12,7 +12,6 @@ use Rattle.rdb_schema.specs.declared.schema.Schema.{Schema}
 use Rattle.rdb_model.specs.Database.{Database, Row, row_of, objects_of}
 use Rattle.rdb_model.specs.Answer.{answer}
 use Rattle.rdb_model.specs.Fits.{Fits, fits_row}
-use Rattle.rdb_schema.specs.Indexes.{indexes_of}
 use Rattle.rdb_journal.specs.Lines.{StepNamesExist}
 use Rattle.rdb_runner.specs.PlainReport.{operation_of}
 use Rattle.rdb_runner.specs.PlainSchema.{is_plain_schema}

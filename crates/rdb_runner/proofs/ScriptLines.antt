@@ -1,5 +1,5 @@
 -- What a script's lines hold: the rows that are made fit the schema, and a transaction has at most 1,000 lines.
-use Rattle.std.proofs.Common.{◌≡◌, ℕ, ◌+◌, ◌<◌, ◌≤◌, Bool, true, false, ◌&&◌, cond, not, ltb, eqb, lit≤, List, [], ◌∷◌, ◌++◌, length, Option, Some, None, refl, sym, ap, ◌∙◌, subst, arith, length-append}
+use Rattle.std.proofs.Common.{◌≡◌, ℕ, ◌+◌, ◌<◌, ◌≤◌, Bool, true, false, ◌&&◌, cond, not, ltb, lit≤, List, [], ◌∷◌, ◌++◌, length, Option, Some, None, refl, sym, ap, ◌∙◌, subst, arith, length-append}
 use Rattle.std.specs.Prelude.{IsTrue, nat_le, is_some}
 use Rattle.std.specs.List.{AllByRecursion, list_all}
 use Rattle.std.specs.Option.{option_map, option_map_or}
@@ -25,8 +25,8 @@ use Rattle.rdb_script.specs.declared.unit.ScriptLine.{ScriptLine}
 use Rattle.rdb_script.specs.declared.unit.Unit.{Unit as ScriptUnit}
 use Rattle.rdb_script.specs.declared.unit.Unit.TheVariants as unit
 use Rattle.rdb_script.specs.Lines.{behind}
-use Rattle.rdb_script.specs.Scripts.{start, takes, may_have, may_stand, with_line, with_ended, after, IsStep, Runs, IsScript}
-use Rattle.rdb_script.specs.Statements.{Known, IsLastRow, IsCall, IsAsked, IsSaidBy, IsStatement, is_silent, is_assignment}
+use Rattle.rdb_script.specs.Scripts.{start, takes, may_have, may_stand, with_line, with_ended, after, Runs, IsScript}
+use Rattle.rdb_script.specs.Statements.{Known, IsLastRow, IsCall, IsAsked, IsSaidBy, is_silent, is_assignment}
 use Rattle.rdb_script.specs.declared.item.Item.{Item}
 use Rattle.rdb_runner.specs.PlainJob.{is_plain_op, is_plain_line, plain_unit, only_unit, plain_lines, IsPlainJob}
 use Rattle.rdb_runner.specs.Runs.{CanDo, CanRun}
