@@ -512,10 +512,10 @@ module _ {T E B P : Type 0} (c : Ghosts T E B P) (made : T) (boarded : Bool) whe
           refl,
         )
 
-    -- a bell is rung, and nothing else changes
-    pub rings : (word : ℕ) → 19 ≤ word → Allows Rule slots id me word (λ n. (n + 1) % 2 ^ 64) (λ _ after. after ≡ me)
-    rings word behind s r count at low =
-        let x = (get_or s.words word 0 + 1) % 2 ^ 64 in
+    -- a word of those who wait is written, and nothing else changes
+    pub signals : (word : ℕ) (f : ℕ → ℕ) → 19 ≤ word → Allows Rule slots id me word f (λ _ after. after ≡ me)
+    signals word f behind s r count at low =
+        let x = f (get_or s.words word 0) in
         let same : set s.views id me.0 ≡ s.views = set_again s.views id me.0 at in (
           me.0,
           keeps,

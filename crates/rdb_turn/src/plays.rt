@@ -63,10 +63,10 @@ impl<T> Play<Option<T>, View<T>> for Mark {
     ghost then = { λ step me _ after. Marks step.first me after };
 }
 
-/// Rings a bell, which changes nothing that a pass knows.
-pub(crate) struct Ring;
+/// Writes a word of those who wait, which changes nothing that a pass knows.
+pub(crate) struct Signal;
 
-impl<T> Play<Option<T>, View<T>> for Ring {
+impl<T> Play<Option<T>, View<T>> for Signal {
     ghost then = { λ _ me _ after. after ≡ me };
 }
 

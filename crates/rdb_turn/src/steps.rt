@@ -1,12 +1,12 @@
 //! One function for each kind of step on the lock's words and its slot. What a step tells is said of the pass's view.
-ghost use Rattle.std.specs.Prelude.{◌≡◌, ℕ, ◌+◌, ◌%◌, ◌<◌, ◌≤◌, [], ◌∷◌, Some, None, true, length};
+ghost use Rattle.std.specs.Prelude.{◌≡◌, ℕ, ◌<◌, ◌≤◌, [], ◌∷◌, Some, None, true, length};
 ghost use Rattle.rdb_turn.specs.declared.view.Stand.TheVariants.{Away, Waits};
 ghost use Rattle.atomic_table.specs.Table.{Seen};
 ghost use Rattle.rdb_turn.specs.Rule.{OwnsSlot, IsClient, Keeps};
 ghost use Rattle.rdb_turn.specs.Steps.{IsAt, IsSamePlace, MayRaise, MayRelease, Draws, Looks, Raises, Releases, Fronts, KeepsFirst, KeepsSecond, SawTwo, Settles, Marks, Stops, AllowsSight, Sees, half_kept, half_given, part_kept, part_given, both_views};
 
 use crate::plays::{
-    Both, Draw, Front, Halves, KeepFirst, KeepSecond, Look, Mark, Parts, Raise, Release, Ring, See,
+    Both, Draw, Front, Halves, KeepFirst, KeepSecond, Look, Mark, Parts, Raise, Release, See,
     Sight, Stop,
 };
 use crate::rule::{Board, Place};
@@ -26,13 +26,7 @@ pub(crate) const FRONT: usize = 2;
 /// The words of the board, for the clients 1 to 16.
 pub(crate) const CLIENTS: usize = 16;
 
-/// The first of the bells, which lie behind the board.
-const FIRST_BELL: usize = 19;
-
-/// How many bells there are.
-const BELLS: u64 = 16;
-
-/// All words: the three, the board and the bells.
+/// All words: the three, the board and those of who waits.
 pub(crate) const WORDS: usize = 35;
 
 /// The slot of the value.
@@ -100,22 +94,6 @@ pub(crate) fn release<T: Chronicle>(board: &Board<T>, place: &mut Place<T>, next
     ensures released { Releases place.old.me place.new.me }
 {
     board.store::<Release>(place, SERVING, next);
-}
-
-/// The bell of a ticket.
-pub(crate) fn bell_of(ticket: u64) -> usize
-    ensures { result ≡ 19 + ticket % 16 }
-{
-    FIRST_BELL + (ticket % BELLS) as usize
-}
-
-/// Rings the bell of a ticket.
-pub(crate) fn ring<T: Chronicle>(board: &Board<T>, place: &mut Place<T>, ticket: u64)
-    requires table { IsAt board.now.table_id place.old }
-    ensures same { IsSamePlace place.old place.new }
-    ensures known { place.new.me ≡ place.old.me }
-{
-    board.fetch_add::<Ring>(place, bell_of(ticket), 1);
 }
 
 /// Looks at the published length.

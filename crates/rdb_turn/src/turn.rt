@@ -4,11 +4,11 @@ ghost use Rattle.std.specs.Prelude.{◌≡◌, ℕ, ◌+◌, ◌-◌, ◌/◌, �
 use crate::pass::Pass;
 use crate::rule::InTurn;
 use crate::steps::{
-    FRONT, SERVING, SLOT, TICKET, WORDS, cut_off, draw, halve, look_front, mark, put, raise,
+    FRONT, SERVING, SLOT, TICKET, WORDS, cut_off, halve, look_front, mark, put, raise,
     release, see, settle, stop, take, unite,
 };
 use crate::view::{Founding, View};
-use crate::waiting::{wait_for, wake};
+use crate::waiting::{get_ticket, wait_for, wake};
 use atomic_table::Table;
 use rdb_base::chronicle::Chronicle;
 use rdb_base::list::NoMemory;
@@ -121,7 +121,7 @@ impl<T: Chronicle> Turn<T> {
         ensures pass { IsPassOf T.Chronicle self.now pass.new }
     {
         let board = &self.table.shared;
-        let ticket = draw(board, &mut pass.place);
+        let ticket = get_ticket(rt, board, &mut pass.place);
         wait_for(rt, board, &mut pass.place, ticket);
         pass.ticket = ticket;
         pass.turns = pass.turns.saturating_add(1);
