@@ -157,6 +157,10 @@ module _ {T E B P : Type 0} (c : Ghosts T E B P) where
   abbrev pub MayRaise : Mine T → ℕ → Type 0
   MayRaise me length_of = (n : ℕ) × (now : T) × (value : T) × (me.0.stand ≡ Inside n) × (me.0.seen ≡ now ∷ []) × (me.1 ≡ (0, Some value) ∷ []) × MayLeave me.0 now value × (length_of ≡ length (c.history value))
 
+  -- the history of the value that the pass has seen last has this length
+  abbrev pub WasAsLong : Mine T → ℕ → Type 0
+  WasAsLong me long = (now : T) → me.0.seen ≡ now ∷ [] → long ≡ length (c.history now)
+
   -- the value in the slot was published
   abbrev pub Raises : Mine T → Mine T → Type 0
   Raises me after = (value : T) → me.1 ≡ (0, Some value) ∷ [] → after ≡ (published me.0 value, me.1)

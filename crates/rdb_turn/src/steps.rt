@@ -3,7 +3,7 @@ ghost use Rattle.std.specs.Prelude.{◌≡◌, ℕ, ◌<◌, ◌≤◌, [], ◌�
 ghost use Rattle.rdb_turn.specs.declared.view.Stand.TheVariants.{Away, Waits};
 ghost use Rattle.atomic_table.specs.Table.{Seen};
 ghost use Rattle.rdb_turn.specs.Rule.{OwnsSlot, IsClient, Keeps};
-ghost use Rattle.rdb_turn.specs.Steps.{IsAt, IsSamePlace, MayRaise, MayRelease, Draws, Looks, Raises, Releases, Fronts, KeepsFirst, KeepsSecond, SawTwo, Settles, Marks, Stops, AllowsSight, Sees, half_kept, half_given, part_kept, part_given, both_views};
+ghost use Rattle.rdb_turn.specs.Steps.{IsAt, IsSamePlace, MayRaise, MayRelease, WasAsLong, Draws, Looks, Raises, Releases, Fronts, KeepsFirst, KeepsSecond, SawTwo, Settles, Marks, Stops, AllowsSight, Sees, half_kept, half_given, part_kept, part_given, both_views};
 
 use crate::plays::{
     Both, Draw, Front, Halves, KeepFirst, KeepSecond, Look, Mark, Parts, Raise, Release, See,
@@ -84,6 +84,38 @@ pub(crate) fn raise<T: Chronicle>(board: &Board<T>, place: &mut Place<T>, length
     ensures raised { Raises T.Chronicle place.old.me place.new.me }
 {
     board.store::<Raise>(place, FRONT, length);
+}
+
+/// Publishes the value that lies in the slot, where its history is as long as the one that was published last: the number stands as it is.
+pub(crate) fn confirm<T: Chronicle>(board: &Board<T>, place: &mut Place<T>)
+    requires table { IsAt board.now.table_id place.old }
+    requires may { (long : ℕ) × MayRaise T.Chronicle place.old.me long × WasAsLong T.Chronicle place.old.me long }
+    requires boarded { board.now.key.boarded ≡ true → place.old.me.0.boarded ≡ true }
+    ensures same { IsSamePlace place.old place.new }
+    ensures raised { Raises T.Chronicle place.old.me place.new.me }
+{
+    board.load::<Raise>(place, FRONT);
+}
+
+/// Publishes the value that lies in the slot, whose history has this length. `before` is the length that was published last.
+pub(crate) fn publish<T: Chronicle>(
+    board: &Board<T>,
+    place: &mut Place<T>,
+    length: u64,
+    before: u64,
+)
+    requires table { IsAt board.now.table_id place.old }
+    requires may { MayRaise T.Chronicle place.old.me length }
+    requires before { WasAsLong T.Chronicle place.old.me before }
+    requires boarded { board.now.key.boarded ≡ true → place.old.me.0.boarded ≡ true }
+    ensures same { IsSamePlace place.old place.new }
+    ensures raised { Raises T.Chronicle place.old.me place.new.me }
+{
+    if length == before {
+        confirm(board, place);
+        return;
+    }
+    raise(board, place, length);
 }
 
 /// Gives the slot back, and serves the next ticket.

@@ -4,7 +4,7 @@ ghost use Rattle.std.specs.Prelude.{◌≡◌, ℕ, ◌+◌, ◌-◌, ◌/◌, �
 use crate::pass::Pass;
 use crate::rule::InTurn;
 use crate::steps::{
-    FRONT, SERVING, SLOT, TICKET, WORDS, cut_off, halve, look_front, mark, put, raise,
+    FRONT, SERVING, SLOT, TICKET, WORDS, cut_off, halve, look_front, mark, publish, put,
     release, see, settle, stop, take, unite,
 };
 use crate::view::{Founding, View};
@@ -146,7 +146,7 @@ impl<T: Chronicle> Turn<T> {
         let length = value.length();
         let next = pass.ticket.wrapping_add(1);
         put(board, &mut pass.place, value);
-        raise(board, &mut pass.place, length);
+        publish(board, &mut pass.place, length, pass.length);
         release(board, &mut pass.place, next);
         wake(board, &mut pass.place, next);
         pass.length = length;
