@@ -1,4 +1,5 @@
-//! The line of those who have no ticket yet: its numbers, and how the first one is called. It touches the words below, which may hold any number.
+//! The line of those who have no ticket yet: its numbers, and how the first one is called. It touches the words below, which may
+//! hold any number. `waiting` says why no wake-up is lost.
 //!
 //! | Word | What it holds |
 //! |---|---|

@@ -4,8 +4,8 @@ ghost use Rattle.std.specs.Prelude.{◌≡◌, ℕ, ◌+◌, ◌-◌, ◌/◌, �
 use crate::pass::Pass;
 use crate::rule::InTurn;
 use crate::steps::{
-    FRONT, SERVING, SLOT, TICKET, WORDS, cut_off, halve, look_front, mark, publish, put,
-    release, see, settle, stop, take, unite,
+    FRONT, SERVING, SLOT, TICKET, WORDS, cut_off, halve, look_front, mark, publish, put, release,
+    see, settle, stop, take, unite,
 };
 use crate::view::{Founding, View};
 use crate::waiting::{get_ticket, wait_for, wake};
