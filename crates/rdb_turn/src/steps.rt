@@ -3,7 +3,9 @@ ghost use Rattle.std.specs.Prelude.{◌≡◌, ℕ, ◌<◌, ◌≤◌, [], ◌�
 ghost use Rattle.rdb_turn.specs.declared.view.Stand.TheVariants.{Away, Waits};
 ghost use Rattle.atomic_table.specs.Table.{Seen};
 ghost use Rattle.rdb_turn.specs.Rule.{OwnsSlot, IsClient, Keeps};
-ghost use Rattle.rdb_turn.specs.Steps.{IsAt, IsSamePlace, MayRaise, MayRelease, WasAsLong, Draws, Looks, Raises, Releases, Fronts, KeepsFirst, KeepsSecond, SawTwo, Settles, Marks, Stops, AllowsSight, Sees, half_kept, half_given, part_kept, part_given, both_views};
+ghost use Rattle.rdb_turn.specs.Steps.{IsAt, IsSamePlace, MayRaise, MayRelease, WasAsLong, Draws, Looks, Raises, Releases, Fronts};
+ghost use Rattle.rdb_turn.specs.Steps.{KeepsFirst, KeepsSecond, SawTwo, Settles, Marks, Stops, AllowsSight, Sees, half_kept};
+ghost use Rattle.rdb_turn.specs.Steps.{half_given, part_kept, part_given, both_views};
 
 use crate::plays::{
     Both, Draw, Front, Halves, KeepFirst, KeepSecond, Look, Mark, Parts, Raise, Release, See,
@@ -252,7 +254,8 @@ pub(crate) fn see<T: Chronicle>(board: &Board<T>, place: &mut Place<T>, client: 
     requires table { IsAt board.now.table_id place.old }
     requires client { IsClient client }
     ensures same { IsSamePlace place.old place.new }
-    ensures saw { Sees (λ table view. Seen (Keeps T.Chronicle board.now.key.made.value board.now.key.boarded) place.old.id view table) client place.old.me result place.new.me }
+    ensures saw { Sees (λ table view. Seen (Keeps T.Chronicle board.now.key.made.value board.now.key.boarded) place.old.id view table)
+        client place.old.me result place.new.me }
 {
     see_in::<T, Brand>(board, place, client)
 }

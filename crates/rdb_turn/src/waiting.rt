@@ -35,7 +35,7 @@
 //!
 //! **The line is called as long as turns end.** While somebody stands in the line, one of these holds:
 //! - (a) Somebody is called: word 20 is odd. It draws its ticket before it makes that word even, and then (b) holds.
-//! - (b) A ticket is out whose thread has not yet looked at the line in its `wake`.
+//! - (b) A ticket is drawn whose thread has not yet looked at the line in its `wake`.
 //! - (c) Somebody has taken a number and not yet looked for room after it.
 //!
 //! Who looks for room at (c) reads words 1, 0 and 20 in this order. If it finds room, it calls the first: (a). If it finds

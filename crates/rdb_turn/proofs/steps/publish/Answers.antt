@@ -1,4 +1,4 @@
-use Rattle.std.proofs.Common.{◌≡◌, ℕ, subst, sym}
+use Rattle.std.proofs.Common.{ℕ, subst, sym}
 use Rattle.rdb_turn.specs.Steps.{WasAsLong}
 use Rattle.rdb_turn.proofs.steps.publish.Goals as goal
 
