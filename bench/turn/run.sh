@@ -11,12 +11,17 @@ mutex > "$work/mutex_before"
 (cd "$work/crates/turn_bench" && rt run) > "$work/turn"
 mutex > "$work/mutex_after"
 awk '
-    $1 == "mutex" { turns[$2] += $3 / 2; hands[$2] += $4 / 2 }
-    $1 == "turn" { own_turns[$2] = $3; own_hands[$2] = $4 }
+    $1 == "mutex" { run = $2 " " $3; turns[run] += $4 / 2; hands[run] += $5 / 2; busy[run] += $6 / 200 }
+    $1 == "turn" { run = $2 " " $3; own_turns[run] = $4; own_hands[run] = $5; own_busy[run] = $6 / 100 }
     function ratio(a, b) { return b > 0 ? sprintf("%.2f", a / b) : "-" }
     END {
-        print "threads, turns a second: turn lock, mutex, ratio; hand-overs a second: turn lock, mutex, ratio"
-        for (n = 1; n <= 8; n *= 2)
-            printf "%d  %.0f %.0f %s  %.0f %.0f %s\n", n, own_turns[n], turns[n], ratio(own_turns[n], turns[n]), own_hands[n], hands[n], ratio(own_hands[n], hands[n])
+        print "work inside in ns, threads; turns a second: turn lock, mutex, ratio; hand-overs a second: turn lock, mutex, ratio;" \
+            " processor time by wall time: turn lock, mutex"
+        for (work = 0; work <= 200; work += 200)
+            for (n = 1; n <= 16; n *= 2) {
+                run = work " " n
+                printf "%d %d  %.0f %.0f %s  %.0f %.0f %s  %.2f %.2f\n", work, n, own_turns[run], turns[run], \
+                    ratio(own_turns[run], turns[run]), own_hands[run], hands[run], ratio(own_hands[run], hands[run]), own_busy[run], busy[run]
+            }
     }
 ' "$work/mutex_before" "$work/turn" "$work/mutex_after"

@@ -18,7 +18,7 @@ use Rattle.rdb_turn.specs.declared.view.View.{View}
 use Rattle.rdb_turn.specs.declared.view.Stand.{Stand}
 use Rattle.rdb_turn.specs.declared.view.Stand.TheVariants.{Away, Waits, Inside}
 use Rattle.rdb_turn.specs.Rule.{all_shares, is_inside, turns_held, tickets_out, first_view, held_of, out_of, shares_of, IsClient, IsStopped, Owns, OwnsSlot, Follows, FollowsAll, KeepsPart, Stands, KnowsParts, Knows, Keeps}
-use Rattle.rdb_turn.specs.Steps.{Mine, standing, seeing, knowing, left_in, Draws, Looks, Raises, Releases, Fronts, KeepsFirst, KeepsSecond, Marks, Stops, AllowsSight, Sees, MayLeave, MayRaise, MayRelease, entered, published, half_kept, half_given, part_kept, part_given, unagreed, both_stopped, both_views, spent_view}
+use Rattle.rdb_turn.specs.Steps.{Mine, standing, seeing, knowing, left_in, Draws, Looks, Raises, Releases, Fronts, KeepsFirst, KeepsSecond, Marks, Stops, AllowsSight, Sees, MayLeave, MayRaise, MayRelease, WasAsLong, entered, published, half_kept, half_given, part_kept, part_given, unagreed, both_stopped, both_views, spent_view}
 use Rattle.rdb_turn.proofs.Beginnings.{follows_itself, follows_further, follows_between, all_further, all_of_both, part_further}
 use Rattle.rdb_turn.proofs.Parts.{owned_below, owned_left, owned_both, owned_without, owned_only}
 use Rattle.rdb_turn.proofs.Agreeing.{none_unagreed, stopped_both}
@@ -411,6 +411,16 @@ module _ {T E B P : Type 0} (c : Ghosts T E B P) (made : T) (boarded : Bool) whe
           λ x is. let both : Some value ≡ Some x = ap slot_of (sym carried ∙ is) in let same : value ≡ x = cc both in ap (λ (y : T). (published c me.0 y, me.1)) same,
         )
 
+    -- the value is published, and the number that stands is its length already
+    pub confirms : ((x y z : P) → c.later x y → c.later y z → c.later x z) → (boarded ≡ true → me.0.boarded ≡ true) → (length_of : ℕ) → MayRaise c me length_of → WasAsLong c me length_of
+        → Allows Rule slots id me 2 (λ n. n) (λ _ after. Raises c me after)
+    confirms again tells length_of may was s r count at low =
+        let st = stands_as s r (Inside may.0) at may.3 in
+        let there : get_or s.words 2 0 ≡ length (c.history r.now) = ap (λ (ws : List ℕ). get_or ws 2 0) r.words in
+        let long : length_of ≡ get_or s.words 2 0 = was r.now st.3 ∙ sym there in
+        let told = raises again tells length_of may s r count at low in
+        (told.0, told.1, told.2, subst (λ (x : ℕ). Rule (stepped s 2 x id me.1 told.0 told.1)) long told.3, told.4)
+
     pub releases : (next : ℕ) → slots ≡ 1 → MayRelease me next → Allows Rule slots id me 1 (λ _. next) (λ _ after. Releases me after)
     releases next one (n, value, inside, saw, carried, next_is) s r count at low =
         let k = r.knows id me.0 at in
@@ -512,10 +522,10 @@ module _ {T E B P : Type 0} (c : Ghosts T E B P) (made : T) (boarded : Bool) whe
           refl,
         )
 
-    -- a bell is rung, and nothing else changes
-    pub rings : (word : ℕ) → 19 ≤ word → Allows Rule slots id me word (λ n. (n + 1) % 2 ^ 64) (λ _ after. after ≡ me)
-    rings word behind s r count at low =
-        let x = (get_or s.words word 0 + 1) % 2 ^ 64 in
+    -- a word of those who wait is written, and nothing else changes
+    pub signals : (word : ℕ) (f : ℕ → ℕ) → 19 ≤ word → Allows Rule slots id me word f (λ _ after. after ≡ me)
+    signals word f behind s r count at low =
+        let x = f (get_or s.words word 0) in
         let same : set s.views id me.0 ≡ s.views = set_again s.views id me.0 at in (
           me.0,
           keeps,

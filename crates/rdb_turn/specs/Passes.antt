@@ -1,5 +1,5 @@
 -- What contracts say of a pass and its turn.
-use Rattle.std.specs.Prelude.{◌≡◌, ◌≢◌, ℕ, ◌%◌, ◌^◌, ◌<◌, ◌≤◌, List, [], ◌∷◌, length, Option, Some, None, Bool, Contains, true, false}
+use Rattle.std.specs.Prelude.{◌≡◌, ◌≢◌, ℕ, ◌%◌, ◌^◌, ◌<◌, List, [], ◌∷◌, length, Option, Some, None, Bool, Contains, true, false}
 use mathlib.Core.Option.{some}
 use lib.ListN.{get_elem?}
 use Rattle.atomic_table.specs.Table.{State}
@@ -17,8 +17,10 @@ Fits ticket carried Away = carried ≡ []
 Fits ticket carried (Waits n) = ⊥
 Fits ticket carried (Inside n) = (carried ≡ (0, None) ∷ []) × (n % 2 ^ 64 ≡ ticket)
 
--- What contracts see of a pass: the value that it has seen last, alone in a list; the slots whose parts it owns, each with the value in which its owner left it last;
--- the slots that it has seen condemned; the clients that it has seen stopped; whose it is, with 0 for nobody's; whether it has the turn; how many turns it has entered; and how many passes it may become.
+-- What contracts see of a pass: the value that it has seen last, alone in a list; the slots whose parts it owns, each with the value in
+-- which its owner left it last;
+-- the slots that it has seen condemned; the clients that it has seen stopped; whose it is, with 0 for nobody's; whether it has the
+-- turn; how many turns it has entered; and how many passes it may become.
 pub record Known (T : Type 0) : Type 0 where
   pub seen : List T
   pub owned : List (ℕ × T)
@@ -62,7 +64,16 @@ module _ {T E B P : Type 0} (c : Ghosts T E B P) where
 
   -- what is known of the pass that is made with the turn
   abbrev pub founder : T → Known T
-  founder value = record { seen = value ∷ []; owned = parts_below 32 value; gone = c.gone value; stopped = []; client = 0; has_turn = false; turns = 0; shares = all_shares }
+  founder value = record {
+    seen = value ∷ [];
+    owned = parts_below 32 value;
+    gone = c.gone value;
+    stopped = [];
+    client = 0;
+    has_turn = false;
+    turns = 0;
+    shares = all_shares;
+  }
 
   -- the base of the value that the turn was made with
   abbrev pub base_of : Turn T E B P → B
@@ -87,21 +98,25 @@ module _ {T E B P : Type 0} (c : Ghosts T E B P) where
     pub knows : get_elem? table.views pass.place.id ≡ some pass.place.me.0
 
   -- in this table the client's word says that it has stopped, and every pass that owns the client's part knows it
-  pub record HasStopped (turn : Turn T E B P) (pass : Pass T) (client : ℕ) (table : State (Option T) (View T)) (is_table : IsTableOf turn pass table) : Type 0 where
+  pub record HasStopped (turn : Turn T E B P) (pass : Pass T) (client : ℕ) (table : State (Option T) (View T))
+      (is_table : IsTableOf turn pass table) : Type 0 where
     pub word : IsStopped is_table.keeps.board client
     pub owners : (id : ℕ) (view : View T) → get_elem? table.views id ≡ some view → OwnsSlot view.owned client → Contains view.stopped client
 
   -- some table that the turn may have is one in which the client has stopped
   abbrev pub SawStopped : Turn T E B P → Pass T → ℕ → Type 0
-  SawStopped turn pass client = (table : State (Option T) (View T)) × (is_table : IsTableOf turn pass table) × HasStopped turn pass client table is_table
+  SawStopped turn pass client = (table : State (Option T) (View T)) × (is_table : IsTableOf turn pass table)
+      × HasStopped turn pass client table is_table
 
   -- and every such table is
   abbrev pub IsStoppedInAll : Turn T E B P → Pass T → ℕ → Type 0
-  IsStoppedInAll turn pass client = (table : State (Option T) (View T)) (is_table : IsTableOf turn pass table) → HasStopped turn pass client table is_table
+  IsStoppedInAll turn pass client = (table : State (Option T) (View T)) (is_table : IsTableOf turn pass table)
+      → HasStopped turn pass client table is_table
 
   -- in some table that the turn may have, the client's word doesn't say that it has stopped
   abbrev pub SawRunning : Turn T E B P → Pass T → ℕ → Type 0
-  SawRunning turn pass client = (table : State (Option T) (View T)) × (is_table : IsTableOf turn pass table) × (¬ IsStopped is_table.keeps.board client)
+  SawRunning turn pass client = (table : State (Option T) (View T)) × (is_table : IsTableOf turn pass table)
+      × (¬ IsStopped is_table.keeps.board client)
 
   -- the turn ends with as many tickets served as were drawn, and with this value in its slot, which goes on from all that any pass has seen
   pub record EndsServed (turn : Turn T E B P) (pass : Pass T) (value : T) : Type 0 where

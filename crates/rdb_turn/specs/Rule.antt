@@ -1,7 +1,9 @@
 -- What a pass knows, and the rule that the lock's words, its slot and all passes keep.
--- Words: the tickets drawn, the tickets served, both modulo 2^64, the published length, 16 words of the board, which are 1 where that client has stopped, and 16 bells, which may hold any number.
+-- Words: the tickets drawn, the tickets served, both modulo 2^64, the published length, 16 words of the board, which are 1 where that
+-- client has stopped, and 16 of those who wait, bells and numbers of the line, which may hold any number.
 -- The one slot has the value.
-use Rattle.std.specs.Prelude.{◌≡◌, ◌⊎◌, ℕ, suc, zero, ◌+◌, ◌-◌, ◌%◌, ◌^◌, ◌<◌, ◌≤◌, List, [], ◌∷◌, ◌++◌, length, slice_index, sum_by, Contains, Option, Some, Bool, true, false}
+use Rattle.std.specs.Prelude.{◌≡◌, ◌⊎◌, ℕ, suc, zero, ◌+◌, ◌-◌, ◌%◌, ◌^◌, ◌<◌, ◌≤◌, List, [], ◌∷◌, ◌++◌, length, slice_index, sum_by}
+use Rattle.std.specs.Prelude.{Contains, Option, Some, Bool, true, false}
 use mathlib.Core.Option.{some}
 use mathlib.Core.List.{IsPrefix}
 use lib.ListN.{get_elem?}
@@ -81,7 +83,16 @@ module _ {T E B P : Type 0} (c : Ghosts T E B P) where
 
   -- the view of the pass that is made with the turn
   abbrev pub first_view : T → Bool → View T
-  first_view value boarded = record { seen = value ∷ []; shares = all_shares; stand = Away; owned = parts_below 32 value; gone = c.gone value; stopped = []; boarded = boarded; parting = 0 }
+  first_view value boarded = record {
+    seen = value ∷ [];
+    shares = all_shares;
+    stand = Away;
+    owned = parts_below 32 value;
+    gone = c.gone value;
+    stopped = [];
+    boarded = boarded;
+    parting = 0;
+  }
 
   -- a ticket that is out belongs to one pass; the one with the turn has seen the value as it is
   abbrev pub Stands : ℕ → ℕ → (ℕ → ℕ) → T → ℕ → List T → Stand → Type 0
@@ -90,14 +101,16 @@ module _ {T E B P : Type 0} (c : Ghosts T E B P) where
   Stands drawn served owner now id seen (Inside n) = (n ≡ served) × (n < drawn) × (owner n ≡ id) × (seen ≡ now ∷ [])
 
   -- what a pass knows of the board and of the parts is so
-  pub record KnowsParts (boarded : Bool) (board : List ℕ) (holder : ℕ → ℕ) (now : T) (id : ℕ) (owned : List (ℕ × T)) (gone stopped : List ℕ) (tells : Bool) : Type 0 where
+  pub record KnowsParts (boarded : Bool) (board : List ℕ) (holder : ℕ → ℕ) (now : T) (id : ℕ)
+      (owned : List (ℕ × T)) (gone stopped : List ℕ) (tells : Bool) : Type 0 where
     pub parts : (slot : ℕ) (x : T) → Owns owned slot x → (holder slot ≡ id) × KeepsPart x now slot
     pub condemned : (slot : ℕ) → Contains gone slot → Contains (c.gone now) slot
     pub words : (client : ℕ) → Contains stopped client → IsClient client × IsStopped board client
     pub own_word : (client : ℕ) → OwnsSlot owned client → IsClient client → IsStopped board client → Contains stopped client
     pub told : tells ≡ true → boarded ≡ true
 
-  pub record Knows (boarded : Bool) (board : List ℕ) (holder : ℕ → ℕ) (drawn served : ℕ) (owner : ℕ → ℕ) (now : T) (id : ℕ) (v : View T) : Type 0 where
+  pub record Knows (boarded : Bool) (board : List ℕ) (holder : ℕ → ℕ) (drawn served : ℕ) (owner : ℕ → ℕ)
+      (now : T) (id : ℕ) (v : View T) : Type 0 where
     pub shared : tickets_out v.stand ≤ v.shares
     pub follows : FollowsAll v.seen now
     pub stands : Stands drawn served owner now id v.seen v.stand

@@ -1,5 +1,6 @@
 -- What each kind of step tells the one who steps: of the pass before, the number found and the pass after.
-use Rattle.std.specs.Prelude.{◌≤◌, ◌≡◌, ◌≢◌, ◌⊎◌, ℕ, ◌+◌, ◌-◌, ◌/◌, ◌%◌, ◌^◌, List, [], ◌∷◌, ◌++◌, length, map, filter, slice_index, Bool, cond, not, ◌&&◌, ◌||◌, ◌==◌, Contains, Option, Some, true, false}
+use Rattle.std.specs.Prelude.{◌≤◌, ◌≡◌, ◌≢◌, ◌⊎◌, ℕ, ◌+◌, ◌-◌, ◌/◌, ◌%◌, ◌^◌, List, [], ◌∷◌, ◌++◌, length, map, filter, slice_index}
+use Rattle.std.specs.Prelude.{Bool, cond, not, ◌&&◌, ◌||◌, ◌==◌, Contains, Option, Some, true, false}
 use Rattle.atomic_table.specs.Table.{State, Me, rest, Seen}
 use Rattle.atomic_table.specs.Seated.{TableId}
 use Rattle.atomic_table.specs.declared.shared.Seat.{Seat}
@@ -53,7 +54,8 @@ module _ {T : Type 0} where
 
   -- the value in the slot is the published one, and the next ticket is `next`
   abbrev pub MayRelease : Mine T → ℕ → Type 0
-  MayRelease me next = (n : ℕ) × (value : T) × (me.0.stand ≡ Inside n) × (me.0.seen ≡ value ∷ []) × (me.1 ≡ (0, Some value) ∷ []) × (next ≡ (n + 1) % 2 ^ 64)
+  MayRelease me next = (n : ℕ) × (value : T) × (me.0.stand ≡ Inside n) × (me.0.seen ≡ value ∷ []) × (me.1 ≡ (0, Some value) ∷ [])
+      × (next ≡ (n + 1) % 2 ^ 64)
 
   -- the slot whose part is cut off next was noted
   abbrev pub Marks : ℕ → Mine T → Mine T → Type 0
@@ -74,7 +76,8 @@ module _ {T : Type 0} where
   AllowsSight rule id fits = (table : State (Option T) (View T)) (view : View T) → Seen rule id view table → fits table view
 
   -- the client's word was looked at: 1 says that it has stopped, which a pass that owns its part knows already
-  pub record Sees (fits : State (Option T) (View T) → View T → Type 0) (client : ℕ) (me : Mine T) (found : ℕ) (after : Mine T) : Type 0 where
+  pub record Sees (fits : State (Option T) (View T) → View T → Type 0)
+      (client : ℕ) (me : Mine T) (found : ℕ) (after : Mine T) : Type 0 where
     pub finds : Finds fits client found after.0
     pub yes : found ≡ 1 → after ≡ (knowing me.0 client, me.1)
     pub no : found ≢ 1 → after ≡ me
@@ -110,14 +113,21 @@ module _ {T : Type 0} where
   -- Where it doesn't, 0 stands for that client. No pass ever knows that 0 has stopped, and so there is none.
   abbrev pub unagreed : List (ℕ × T) → List ℕ → List ℕ → List ℕ
   unagreed owned known [] = []
-  unagreed owned known (client ∷ told) = cond (is_owned owned client && not (is_among known client)) (0 ∷ unagreed owned known told) (unagreed owned known told)
+  unagreed owned known (client ∷ told) = cond (is_owned owned client && not (is_among known client)) (0 ∷ unagreed owned known told)
+      (unagreed owned known told)
 
   -- the clients that two passes know to have stopped
   abbrev pub both_stopped : View T → View T → List ℕ
   both_stopped v w = v.stopped ++ (w.stopped ++ (unagreed v.owned v.stopped w.stopped ++ unagreed w.owned w.stopped v.stopped))
 
   abbrev pub both_views : View T → View T → View T
-  both_views v w = record v { seen = v.seen ++ w.seen; shares = v.shares + w.shares; owned = v.owned ++ w.owned; gone = v.gone ++ w.gone; stopped = both_stopped v w }
+  both_views v w = record v {
+    seen = v.seen ++ w.seen;
+    shares = v.shares + w.shares;
+    owned = v.owned ++ w.owned;
+    gone = v.gone ++ w.gone;
+    stopped = both_stopped v w;
+  }
 
   abbrev pub spent_view : View T
   spent_view = record { seen = []; shares = 0; stand = Away; owned = []; gone = []; stopped = []; boarded = false; parting = 0 }
@@ -136,7 +146,8 @@ module _ {T E B P : Type 0} (c : Ghosts T E B P) where
     pub follows : FollowsAll c v.seen value
     pub parts : (slot : ℕ) (x : T) → Owns v.owned slot x → KeepsPart c x value slot
     pub gone : (slot : ℕ) → Contains v.gone slot → Contains (c.gone value) slot
-    pub alive : v.boarded ≡ true → (client : ℕ) → IsClient client → OwnsSlot v.owned client → ¬ Contains v.stopped client → ¬ Contains (c.gone value) client
+    pub alive : v.boarded ≡ true → (client : ℕ) → IsClient client → OwnsSlot v.owned client → ¬ Contains v.stopped client
+        → ¬ Contains (c.gone value) client
 
   -- the turn has come: the slot was taken
   abbrev pub Enters : Mine T → ℕ → Mine T → Type 0
@@ -146,16 +157,23 @@ module _ {T E B P : Type 0} (c : Ghosts T E B P) where
   abbrev pub Looks : Mine T → ℕ → Mine T → Type 0
   Looks me found after = (n : ℕ) → me.0.stand ≡ Waits n → (found ≡ n % 2 ^ 64 → Enters me n after) × (found ≢ n % 2 ^ 64 → after ≡ me)
 
-  -- a pass may leave b after it entered with a: it changed what is its own, and of the condemned; on a board it condemned none but those whom it has seen stopped
+  -- a pass may leave b after it entered with a: it changed what is its own, and of the condemned; on a board it condemned none but
+  -- those whom it has seen stopped
   pub record MayLeave (v : View T) (a b : T) : Type 0 where
     pub follows : Follows c a b
     pub gone : (slot : ℕ) → Contains (c.gone a) slot → Contains (c.gone b) slot
     pub parts : (slot : ℕ) → ¬ OwnsSlot v.owned slot → KeepsPart c a b slot
-    pub condemned : v.boarded ≡ true → (slot : ℕ) → Contains (c.gone b) slot → Contains (c.gone a) slot ⊎ (IsClient slot × Contains v.stopped slot)
+    pub condemned : v.boarded ≡ true → (slot : ℕ) → Contains (c.gone b) slot → Contains (c.gone a) slot
+        ⊎ (IsClient slot × Contains v.stopped slot)
 
   -- the value in the slot may be left by the pass with the turn, and has this length
   abbrev pub MayRaise : Mine T → ℕ → Type 0
-  MayRaise me length_of = (n : ℕ) × (now : T) × (value : T) × (me.0.stand ≡ Inside n) × (me.0.seen ≡ now ∷ []) × (me.1 ≡ (0, Some value) ∷ []) × MayLeave me.0 now value × (length_of ≡ length (c.history value))
+  MayRaise me length_of = (n : ℕ) × (now : T) × (value : T) × (me.0.stand ≡ Inside n) × (me.0.seen ≡ now ∷ [])
+      × (me.1 ≡ (0, Some value) ∷ []) × MayLeave me.0 now value × (length_of ≡ length (c.history value))
+
+  -- the history of the value that the pass has seen last has this length
+  abbrev pub WasAsLong : Mine T → ℕ → Type 0
+  WasAsLong me long = (now : T) → me.0.seen ≡ now ∷ [] → long ≡ length (c.history now)
 
   -- the value in the slot was published
   abbrev pub Raises : Mine T → Mine T → Type 0
@@ -163,16 +181,19 @@ module _ {T E B P : Type 0} (c : Ghosts T E B P) where
 
   -- the published length was found, and that history was seen
   abbrev pub Fronts : Mine T → ℕ → Mine T → Type 0
-  Fronts me found after = (value : T) × (after ≡ (seeing me.0 value, me.1)) × (found ≡ length (c.history value)) × FollowsAll c me.0.seen value × (turns_held me.0.stand ≡ 1 → me.0.seen ≡ value ∷ [])
+  Fronts me found after = (value : T) × (after ≡ (seeing me.0 value, me.1)) × (found ≡ length (c.history value))
+      × FollowsAll c me.0.seen value × (turns_held me.0.stand ≡ 1 → me.0.seen ≡ value ∷ [])
 
   -- of two values that were seen the first is kept, which comes of the other; nobody knows that client 0 has stopped, and no
   -- pass may become more than there can be
   abbrev pub KeepsFirst : Mine T → Mine T → Type 0
-  KeepsFirst me after = (a b : T) → me.0.seen ≡ a ∷ b ∷ [] → (after ≡ (seeing me.0 a, me.1)) × Follows c b a × ¬ Contains me.0.stopped 0 × (me.0.shares ≤ all_shares)
+  KeepsFirst me after = (a b : T) → me.0.seen ≡ a ∷ b ∷ [] → (after ≡ (seeing me.0 a, me.1)) × Follows c b a × ¬ Contains me.0.stopped 0
+      × (me.0.shares ≤ all_shares)
 
   -- the second is kept
   abbrev pub KeepsSecond : Mine T → Mine T → Type 0
-  KeepsSecond me after = (a b : T) → me.0.seen ≡ a ∷ b ∷ [] → (after ≡ (seeing me.0 b, me.1)) × Follows c a b × ¬ Contains me.0.stopped 0 × (me.0.shares ≤ all_shares)
+  KeepsSecond me after = (a b : T) → me.0.seen ≡ a ∷ b ∷ [] → (after ≡ (seeing me.0 b, me.1)) × Follows c a b × ¬ Contains me.0.stopped 0
+      × (me.0.shares ≤ all_shares)
 
   -- two values were seen, whose histories have these lengths
   abbrev pub SawTwo : Mine T → ℕ → ℕ → Type 0

@@ -2,7 +2,9 @@
 //! whose history begins with all that the entering pass has seen. It knows nothing of what the value is.
 #![tactic(auto)]
 
+mod bells;
 mod crossing;
+mod line;
 mod pass;
 mod plays;
 mod rule;

@@ -1,6 +1,7 @@
 //! What each kind of step tells the one who steps.
 ghost use Rattle.std.specs.Prelude.{◌≡◌, ◌-◌};
-ghost use Rattle.rdb_turn.specs.Steps.{Draws, Looks, Raises, Releases, Fronts, KeepsFirst, KeepsSecond, Marks, Stops, Sees, half_kept, half_given, part_kept, part_given, both_views, spent_view};
+ghost use Rattle.rdb_turn.specs.Steps.{Draws, Looks, Raises, Releases, Fronts, KeepsFirst, KeepsSecond, Marks, Stops, Sees, half_kept};
+ghost use Rattle.rdb_turn.specs.Steps.{half_given, part_kept, part_given, both_views, spent_view};
 
 use crate::view::View;
 use atomic_table::{Join, Play, Split};
@@ -63,10 +64,10 @@ impl<T> Play<Option<T>, View<T>> for Mark {
     ghost then = { λ step me _ after. Marks step.first me after };
 }
 
-/// Rings a bell, which changes nothing that a pass knows.
-pub(crate) struct Ring;
+/// Writes a word of those who wait, which changes nothing that a pass knows.
+pub(crate) struct Signal;
 
-impl<T> Play<Option<T>, View<T>> for Ring {
+impl<T> Play<Option<T>, View<T>> for Signal {
     ghost then = { λ _ me _ after. after ≡ me };
 }
 

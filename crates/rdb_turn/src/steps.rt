@@ -1,12 +1,14 @@
 //! One function for each kind of step on the lock's words and its slot. What a step tells is said of the pass's view.
-ghost use Rattle.std.specs.Prelude.{◌≡◌, ℕ, ◌+◌, ◌%◌, ◌<◌, ◌≤◌, [], ◌∷◌, Some, None, true, length};
+ghost use Rattle.std.specs.Prelude.{◌≡◌, ℕ, ◌<◌, ◌≤◌, [], ◌∷◌, Some, None, true, length};
 ghost use Rattle.rdb_turn.specs.declared.view.Stand.TheVariants.{Away, Waits};
 ghost use Rattle.atomic_table.specs.Table.{Seen};
 ghost use Rattle.rdb_turn.specs.Rule.{OwnsSlot, IsClient, Keeps};
-ghost use Rattle.rdb_turn.specs.Steps.{IsAt, IsSamePlace, MayRaise, MayRelease, Draws, Looks, Raises, Releases, Fronts, KeepsFirst, KeepsSecond, SawTwo, Settles, Marks, Stops, AllowsSight, Sees, half_kept, half_given, part_kept, part_given, both_views};
+ghost use Rattle.rdb_turn.specs.Steps.{IsAt, IsSamePlace, MayRaise, MayRelease, WasAsLong, Draws, Looks, Raises, Releases, Fronts};
+ghost use Rattle.rdb_turn.specs.Steps.{KeepsFirst, KeepsSecond, SawTwo, Settles, Marks, Stops, AllowsSight, Sees, half_kept};
+ghost use Rattle.rdb_turn.specs.Steps.{half_given, part_kept, part_given, both_views};
 
 use crate::plays::{
-    Both, Draw, Front, Halves, KeepFirst, KeepSecond, Look, Mark, Parts, Raise, Release, Ring, See,
+    Both, Draw, Front, Halves, KeepFirst, KeepSecond, Look, Mark, Parts, Raise, Release, See,
     Sight, Stop,
 };
 use crate::rule::{Board, Place};
@@ -26,13 +28,7 @@ pub(crate) const FRONT: usize = 2;
 /// The words of the board, for the clients 1 to 16.
 pub(crate) const CLIENTS: usize = 16;
 
-/// The first of the bells, which lie behind the board.
-const FIRST_BELL: usize = 19;
-
-/// How many bells there are.
-const BELLS: u64 = 16;
-
-/// All words: the three, the board and the bells.
+/// All words: the three, the board and those of who waits.
 pub(crate) const WORDS: usize = 35;
 
 /// The slot of the value.
@@ -92,6 +88,38 @@ pub(crate) fn raise<T: Chronicle>(board: &Board<T>, place: &mut Place<T>, length
     board.store::<Raise>(place, FRONT, length);
 }
 
+/// Publishes the value that lies in the slot, where its history is as long as the one that was published last: the number stands as it is.
+pub(crate) fn confirm<T: Chronicle>(board: &Board<T>, place: &mut Place<T>)
+    requires table { IsAt board.now.table_id place.old }
+    requires may { (long : ℕ) × MayRaise T.Chronicle place.old.me long × WasAsLong T.Chronicle place.old.me long }
+    requires boarded { board.now.key.boarded ≡ true → place.old.me.0.boarded ≡ true }
+    ensures same { IsSamePlace place.old place.new }
+    ensures raised { Raises T.Chronicle place.old.me place.new.me }
+{
+    board.load::<Raise>(place, FRONT);
+}
+
+/// Publishes the value that lies in the slot, whose history has this length. `before` is the length that was published last.
+pub(crate) fn publish<T: Chronicle>(
+    board: &Board<T>,
+    place: &mut Place<T>,
+    length: u64,
+    before: u64,
+)
+    requires table { IsAt board.now.table_id place.old }
+    requires may { MayRaise T.Chronicle place.old.me length }
+    requires before { WasAsLong T.Chronicle place.old.me before }
+    requires boarded { board.now.key.boarded ≡ true → place.old.me.0.boarded ≡ true }
+    ensures same { IsSamePlace place.old place.new }
+    ensures raised { Raises T.Chronicle place.old.me place.new.me }
+{
+    if length == before {
+        confirm(board, place);
+        return;
+    }
+    raise(board, place, length);
+}
+
 /// Gives the slot back, and serves the next ticket.
 pub(crate) fn release<T: Chronicle>(board: &Board<T>, place: &mut Place<T>, next: u64)
     requires table { IsAt board.now.table_id place.old }
@@ -100,22 +128,6 @@ pub(crate) fn release<T: Chronicle>(board: &Board<T>, place: &mut Place<T>, next
     ensures released { Releases place.old.me place.new.me }
 {
     board.store::<Release>(place, SERVING, next);
-}
-
-/// The bell of a ticket.
-pub(crate) fn bell_of(ticket: u64) -> usize
-    ensures { result ≡ 19 + ticket % 16 }
-{
-    FIRST_BELL + (ticket % BELLS) as usize
-}
-
-/// Rings the bell of a ticket.
-pub(crate) fn ring<T: Chronicle>(board: &Board<T>, place: &mut Place<T>, ticket: u64)
-    requires table { IsAt board.now.table_id place.old }
-    ensures same { IsSamePlace place.old place.new }
-    ensures known { place.new.me ≡ place.old.me }
-{
-    board.fetch_add::<Ring>(place, bell_of(ticket), 1);
 }
 
 /// Looks at the published length.
@@ -242,7 +254,8 @@ pub(crate) fn see<T: Chronicle>(board: &Board<T>, place: &mut Place<T>, client: 
     requires table { IsAt board.now.table_id place.old }
     requires client { IsClient client }
     ensures same { IsSamePlace place.old place.new }
-    ensures saw { Sees (λ table view. Seen (Keeps T.Chronicle board.now.key.made.value board.now.key.boarded) place.old.id view table) client place.old.me result place.new.me }
+    ensures saw { Sees (λ table view. Seen (Keeps T.Chronicle board.now.key.made.value board.now.key.boarded) place.old.id view table)
+        client place.old.me result place.new.me }
 {
     see_in::<T, Brand>(board, place, client)
 }

@@ -9,9 +9,12 @@ use rdb_base::chronicle::Chronicle;
 use rdb_base::list::List;
 use std::alloc::Global;
 use std::marker::Model;
+use std::rt::Clock;
 use std::sync::Wait;
 use std::test::Fail;
+use std::thread;
 use std::thread::{Threads, join};
+use std::time::Duration;
 
 /// One entry of a client, with its number.
 #[derive(Clone, Copy, Debug, PartialEq, Eq)]
@@ -19,6 +22,12 @@ struct Line {
     client: u32,
     number: u32,
 }
+
+/// The first line of client 1.
+const FIRST_LINE: Line = Line {
+    client: 1,
+    number: 0,
+};
 
 /// Entries under a title.
 #[derive(Drop)]
@@ -66,11 +75,11 @@ impl Log {
     }
 
     /// Adds a line, if there is memory.
-    fn add(&mut self, client: u32, number: u32)
+    fn add(&mut self, line: Line)
         ensures title { self.new.title ≡ self.old.title }
         ensures later { IsPrefix self.old.lines self.new.lines }
     {
-        let _ = self.lines.push(Line { client, number });
+        let _ = self.lines.push(line);
     }
 
     /// Whether this client's numbers are 0, 1 and so on up to `count`.
@@ -101,15 +110,29 @@ fn give_back(turn: &Turn<Log>, pass: &mut Pass<Log>, log: Log)
     turn.leave(pass, log);
 }
 
-/// Adds a line in a turn of its own, if there is memory.
-fn write_line<R: Wait>(rt: &R, turn: &Turn<Log>, pass: &mut Pass<Log>, client: u32, number: u32)
+/// Naps for a millisecond, or doesn't.
+fn nap<R: Clock>(rt: &R, long: bool) {
+    if long {
+        thread::sleep(rt, Duration::from_millis(1));
+    }
+}
+
+/// Adds a line in a turn of its own, if there is memory, and naps inside the turn or doesn't.
+fn write_line<R: Wait + Clock>(
+    rt: &R,
+    turn: &Turn<Log>,
+    pass: &mut Pass<Log>,
+    line: Line,
+    naps: bool,
+)
     requires pass { IsPassOf ⟦<Log as Chronicle>⟧ turn.now pass.old }
     requires away { (known pass.old).has_turn ≡ false }
     ensures away { (known pass.new).has_turn ≡ false }
     ensures pass { IsPassOf ⟦<Log as Chronicle>⟧ turn.now pass.new }
 {
     let mut log = turn.enter(rt, pass);
-    log.add(client, number);
+    log.add(line);
+    nap(rt, naps);
     give_back(turn, pass, log);
 }
 
@@ -118,7 +141,7 @@ fn the_front_moves_while_another_has_the_turn(rt: HostRuntime) -> Result<(), Fai
     let (turn, mut first) = Turn::make(rt.alloc(), Log::new(rt.alloc()))?;
     let mut second = turn.split(&mut first)?;
     let before = turn.front(&mut second);
-    write_line(&rt, &turn, &mut first, 1, 0);
+    write_line(&rt, &turn, &mut first, FIRST_LINE, false);
     let held = turn.enter(&rt, &mut first);
     let after = turn.front(&mut second);
     let closed = turn.close(second);
@@ -142,7 +165,7 @@ fn the_front_moves_while_a_third_has_the_turn(rt: HostRuntime) -> Result<(), Fai
     let (turn, mut first) = Turn::make(rt.alloc(), Log::new(rt.alloc()))?;
     let mut second = turn.split(&mut first)?;
     let mut third = turn.split(&mut first)?;
-    write_line(&rt, &turn, &mut first, 1, 0);
+    write_line(&rt, &turn, &mut first, FIRST_LINE, false);
     let held = turn.enter(&rt, &mut third);
     let seen = turn.front(&mut second);
     give_back(&turn, &mut third, held);
@@ -180,9 +203,22 @@ fn a_client_has_stopped_once_it_wrote_so(rt: HostRuntime) -> Result<(), Fail> {
     Ok(())
 }
 
-const CLIENTS: u32 = 8;
+/// A client that naps does so in one of so many turns.
+const TURNS_A_NAP: u32 = 400;
 
-const LINES: u32 = 1000;
+/// What each client writes.
+#[derive(Clone, Copy)]
+struct Job {
+    lines: u32,
+    /// Whether clients nap inside some of their turns.
+    naps: bool,
+}
+
+impl Job {
+    fn naps_at(self, client: u32, number: u32) -> bool {
+        self.naps && number % TURNS_A_NAP == client
+    }
+}
 
 /// A pass with its turn, which it does not hold.
 #[derive(Drop)]
@@ -200,8 +236,8 @@ impl<'a> Model for Writer<'a> {
 }
 
 impl<'a> Writer<'a> {
-    fn line<R: Wait>(&mut self, rt: &R, client: u32, number: u32) {
-        write_line(rt, self.turn, &mut self.pass, client, number);
+    fn line<R: Wait + Clock>(&mut self, rt: &R, line: Line, naps: bool) {
+        write_line(rt, self.turn, &mut self.pass, line, naps);
     }
 
     fn fork(&mut self) -> Option<Writer<'a>> {
@@ -214,61 +250,107 @@ impl<'a> Writer<'a> {
 }
 
 /// Adds a client's lines, each in a turn of its own.
-fn write<R: Wait>(rt: &R, mut writer: Writer, client: u32) {
-    for number in 0..LINES {
-        writer.line(rt, client, number);
+fn write<R: Wait + Clock>(rt: &R, mut writer: Writer, job: Job, client: u32) {
+    for number in 0..job.lines {
+        writer.line(rt, Line { client, number }, job.naps_at(client, number));
     }
 }
 
 /// Lets two clients write, each in a thread of its own.
-fn write_two<R: Threads + Wait + Sync>(rt: &R, mut writer: Writer, first: u32) {
+fn write_two<R: Threads + Wait + Clock + Sync>(rt: &R, mut writer: Writer, job: Job, first: u32) {
     let Some(other) = writer.fork() else {
         return;
     };
     let second = first.wrapping_add(1);
     join(
         rt,
-        move || write(rt, writer, first),
-        move || write(rt, other, second),
+        move || write(rt, writer, job, first),
+        move || write(rt, other, job, second),
     );
 }
 
 /// Lets four clients write, each in a thread of its own.
-fn write_four<R: Threads + Wait + Sync>(rt: &R, mut writer: Writer, first: u32) {
+fn write_four<R: Threads + Wait + Clock + Sync>(rt: &R, mut writer: Writer, job: Job, first: u32) {
     let Some(other) = writer.fork() else {
         return;
     };
-    let third = first.wrapping_add(2);
+    let second = first.wrapping_add(2);
     join(
         rt,
-        move || write_two(rt, writer, first),
-        move || write_two(rt, other, third),
+        move || write_two(rt, writer, job, first),
+        move || write_two(rt, other, job, second),
     );
 }
 
 /// Lets eight clients write, each in a thread of its own.
-fn write_eight<R: Threads + Wait + Sync>(rt: &R, mut writer: Writer) {
+fn write_eight<R: Threads + Wait + Clock + Sync>(rt: &R, mut writer: Writer, job: Job, first: u32) {
     let Some(other) = writer.fork() else {
         return;
     };
+    let second = first.wrapping_add(4);
     join(
         rt,
-        move || write_four(rt, writer, 0),
-        move || write_four(rt, other, 4),
+        move || write_four(rt, writer, job, first),
+        move || write_four(rt, other, job, second),
     );
+}
+
+/// Lets sixteen clients write, each in a thread of its own.
+fn write_sixteen<R: Threads + Wait + Clock + Sync>(
+    rt: &R,
+    mut writer: Writer,
+    job: Job,
+    first: u32,
+) {
+    let Some(other) = writer.fork() else {
+        return;
+    };
+    let second = first.wrapping_add(8);
+    join(
+        rt,
+        move || write_eight(rt, writer, job, first),
+        move || write_eight(rt, other, job, second),
+    );
+}
+
+/// Whether a log has the lines of so many clients and no others, each client's in order.
+fn is_complete(log: &Log, clients: u32, job: Job) -> bool {
+    for client in 0..clients {
+        if !log.has_in_order(client, job.lines) {
+            return false;
+        }
+    }
+    log.length() == u64::from(clients) * u64::from(job.lines)
 }
 
 #[test]
 fn eight_threads_lose_no_line(rt: HostRuntime) -> Result<(), Fail> {
+    let job = Job {
+        lines: 1000,
+        naps: false,
+    };
     let (turn, mut first) = Turn::make(rt.alloc(), Log::new(rt.alloc()))?;
     let pass = turn.split(&mut first)?;
-    write_eight(&rt, Writer { turn: &turn, pass });
+    write_eight(&rt, Writer { turn: &turn, pass }, job, 0);
     let Ok(log) = turn.close(first) else {
         panic!(rt; "no ticket was out")
     };
-    assert_eq!(rt; log.length(), 8000);
-    for client in 0..CLIENTS {
-        assert!(rt; log.has_in_order(client, LINES), "client {client}");
-    }
+    assert!(rt; is_complete(&log, 8, job));
+    Ok(())
+}
+
+#[test]
+fn sixteen_threads_that_nap_inside_lose_no_line(rt: HostRuntime) -> Result<(), Fail> {
+    let job = Job {
+        lines: 2000,
+        naps: true,
+    };
+    let (turn, mut first) = Turn::make(rt.alloc(), Log::new(rt.alloc()))?;
+    let pass = turn.split(&mut first)?;
+    write_sixteen(&rt, Writer { turn: &turn, pass }, job, 0);
+    let Ok(log) = turn.close(first) else {
+        panic!(rt; "no ticket was out")
+    };
+    assert!(rt; is_complete(&log, 16, job));
     Ok(())
 }

@@ -46,12 +46,14 @@ impl Chronicle for Count {
     ghost later_again = { λ a b d first second. le_trans second first };
 }
 
-/// The owner of slot 1 counts to `count` in a turn of its own, and answers what it found, which is what it left last unless the slot is condemned.
+/// The owner of slot 1 counts to `count` in a turn of its own, and answers what it found, which is what it left last unless the slot is
+/// condemned.
 fn count_to<R: Wait>(rt: &R, turn: &Turn<Count>, pass: &mut Pass<Count>, count: u32) -> u32
     requires pass { IsPassOf ⟦<Count as Chronicle>⟧ turn.now pass.old }
     requires away { (known pass.old).has_turn ≡ false }
     requires owns { OwnsSlot (known pass.old).owned 1 }
-    ensures found { (x : Count) → Owns (known pass.old).owned 1 x → (result ≡ x.count) ⊎ (Contains (known pass.new).gone 1 × (result ≤ x.count)) }
+    ensures found { (x : Count) → Owns (known pass.old).owned 1 x → (result ≡ x.count)
+        ⊎ (Contains (known pass.new).gone 1 × (result ≤ x.count)) }
     ensures left { (x : Count) → Owns (known pass.new).owned 1 x → x.count ≡ count }
     ensures owns { OwnsSlot (known pass.new).owned 1 }
     ensures client { (known pass.new).client ≡ (known pass.old).client }

@@ -1,14 +1,15 @@
 //! The turn lock itself.
-ghost use Rattle.std.specs.Prelude.{◌≡◌, ℕ, ◌+◌, ◌-◌, ◌/◌, ◌≢◌, ◌^◌, ◌<◌, ◌≤◌, ◌⊎◌, ◌++◌, ◌∷◌, [], true, false, length, min, Contains, IfOk, IfErr, OnOk, OnErr, IsOk, MatchBool};
+ghost use Rattle.std.specs.Prelude.{◌≡◌, ℕ, ◌+◌, ◌-◌, ◌/◌, ◌≢◌, ◌^◌, ◌<◌, ◌≤◌, ◌⊎◌, ◌++◌, ◌∷◌, [], true, false, length, min, Contains};
+ghost use Rattle.std.specs.Prelude.{IfOk, IfErr, OnOk, OnErr, IsOk, MatchBool};
 
 use crate::pass::Pass;
 use crate::rule::InTurn;
 use crate::steps::{
-    FRONT, SERVING, SLOT, TICKET, WORDS, cut_off, draw, halve, look_front, mark, put, raise,
-    release, see, settle, stop, take, unite,
+    FRONT, SERVING, SLOT, TICKET, WORDS, cut_off, halve, look_front, mark, publish, put, release,
+    see, settle, stop, take, unite,
 };
 use crate::view::{Founding, View};
-use crate::waiting::{wait_for, wake};
+use crate::waiting::{get_ticket, wait_for, wake};
 use atomic_table::Table;
 use rdb_base::chronicle::Chronicle;
 use rdb_base::list::NoMemory;
@@ -45,7 +46,8 @@ impl<T: Chronicle> Turn<T> {
     ghost use mathlib.Core.List.{IsPrefix};
     ghost use Rattle.rdb_turn.specs.Rule.{IsClient, Owns, OwnsSlot, KeepsPart};
     ghost use Rattle.rdb_turn.specs.Steps.{left_in, without, only};
-    ghost use Rattle.rdb_turn.specs.Passes.{known, seen, founder, HasMetAll, IsPassOf, base_of, is_boarded, SawStopped, IsStoppedInAll, SawRunning, EndsServed, EndsOut};
+    ghost use Rattle.rdb_turn.specs.Passes.{known, seen, founder, HasMetAll, IsPassOf, base_of, is_boarded, SawStopped};
+    ghost use Rattle.rdb_turn.specs.Passes.{IsStoppedInAll, SawRunning, EndsServed, EndsOut};
 
     /// Lays out a lock, with or without a board.
     fn lay(alloc: Global, value: T, boarded: bool) -> Result<(Turn<T>, Pass<T>), NoMemory>
@@ -108,7 +110,8 @@ impl<T: Chronicle> Turn<T> {
     }
 
     /// Waits for the turn, and takes the value, which the pass has then seen. The turns entered are counted as far as the type counts.
-    /// A part that the pass owns is as its owner left it last, or later where its slot was condemned, and on a board a client of its own that has not stopped was not.
+    /// A part that the pass owns is as its owner left it last, or later where its slot was condemned, and on a board a client of its
+    /// own that has not stopped was not.
     pub fn enter(&self, rt: &impl Wait, pass: &mut Pass<T>) -> T
         requires pass { IsPassOf T.Chronicle self.now pass.old }
         requires away { (known pass.old).has_turn ≡ false }
@@ -116,12 +119,18 @@ impl<T: Chronicle> Turn<T> {
         ensures later { IsPrefix (seen T.Chronicle pass.old) (T.history result) }
         ensures parts { (slot : ℕ) (x : T) → Owns (known pass.old).owned slot x → KeepsPart T.Chronicle x result slot }
         ensures gone { (slot : ℕ) → Contains (known pass.old).gone slot → Contains (T.gone result) slot }
-        ensures alive { is_boarded self.now ≡ true → (client : ℕ) → IsClient client → OwnsSlot (known pass.old).owned client → ¬ Contains (known pass.old).stopped client → ¬ Contains (T.gone result) client }
-        ensures known { known pass.new ≡ record (known pass.old) { seen = result ∷ []; gone = T.gone result; has_turn = true; turns = min ((known pass.old).turns + 1) (2 ^ 64 - 1) } }
+        ensures alive { is_boarded self.now ≡ true → (client : ℕ) → IsClient client → OwnsSlot (known pass.old).owned client
+            → ¬ Contains (known pass.old).stopped client → ¬ Contains (T.gone result) client }
+        ensures known { known pass.new ≡ record (known pass.old) {
+          seen = result ∷ [];
+          gone = T.gone result;
+          has_turn = true;
+          turns = min ((known pass.old).turns + 1) (2 ^ 64 - 1);
+        } }
         ensures pass { IsPassOf T.Chronicle self.now pass.new }
     {
         let board = &self.table.shared;
-        let ticket = draw(board, &mut pass.place);
+        let ticket = get_ticket(rt, board, &mut pass.place);
         wait_for(rt, board, &mut pass.place, ticket);
         pass.ticket = ticket;
         pass.turns = pass.turns.saturating_add(1);
@@ -137,22 +146,30 @@ impl<T: Chronicle> Turn<T> {
         requires base { T.base value ≡ base_of T.Chronicle self.now }
         requires history { IsPrefix (seen T.Chronicle pass.old) (T.history value) }
         requires gone { (slot : ℕ) → Contains (known pass.old).gone slot → Contains (T.gone value) slot }
-        requires parts { (slot : ℕ) (x : T) → (known pass.old).seen ≡ x ∷ [] → ¬ OwnsSlot (known pass.old).owned slot → KeepsPart T.Chronicle x value slot }
-        requires condemned { is_boarded self.now ≡ true → (slot : ℕ) → Contains (T.gone value) slot → Contains (known pass.old).gone slot ⊎ (IsClient slot × Contains (known pass.old).stopped slot) }
-        ensures known { known pass.new ≡ record (known pass.old) { seen = value ∷ []; owned = left_in (known pass.old).owned value; gone = T.gone value; has_turn = false } }
+        requires parts { (slot : ℕ) (x : T) → (known pass.old).seen ≡ x ∷ [] → ¬ OwnsSlot (known pass.old).owned slot
+            → KeepsPart T.Chronicle x value slot }
+        requires condemned { is_boarded self.now ≡ true → (slot : ℕ) → Contains (T.gone value) slot → Contains (known pass.old).gone slot
+            ⊎ (IsClient slot × Contains (known pass.old).stopped slot) }
+        ensures known { known pass.new ≡ record (known pass.old) {
+          seen = value ∷ [];
+          owned = left_in (known pass.old).owned value;
+          gone = T.gone value;
+          has_turn = false;
+        } }
         ensures pass { IsPassOf T.Chronicle self.now pass.new }
     {
         let board = &self.table.shared;
         let length = value.length();
         let next = pass.ticket.wrapping_add(1);
         put(board, &mut pass.place, value);
-        raise(board, &mut pass.place, length);
+        publish(board, &mut pass.place, length, pass.length);
         release(board, &mut pass.place, next);
         wake(board, &mut pass.place, next);
         pass.length = length;
     }
 
-    /// The length of the history that was published last, which the pass has then seen. It waits for nobody, also while another has the turn.
+    /// The length of the history that was published last, which the pass has then seen. It waits for nobody, also while another has the
+    /// turn.
     pub fn front(&self, pass: &mut Pass<T>) -> u64
         requires { IsPassOf T.Chronicle self.now pass.old }
         ensures published { result ≡ length (seen T.Chronicle pass.new) }
@@ -171,8 +188,10 @@ impl<T: Chronicle> Turn<T> {
         requires pass { IsPassOf T.Chronicle self.now pass.old }
         requires away { (known pass.old).has_turn ≡ false }
         ensures new { IfOk result (λ p. IsPassOf T.Chronicle self.now p) }
-        ensures given { IfOk result (λ p. known p ≡ record (known pass.old) { owned = []; client = 0; turns = 0; shares = (known pass.old).shares / 2 }) }
-        ensures kept { OnOk result (known pass.new ≡ record (known pass.old) { shares = (known pass.old).shares - (known pass.old).shares / 2 }) }
+        ensures given { IfOk result (λ p. known p
+            ≡ record (known pass.old) { owned = []; client = 0; turns = 0; shares = (known pass.old).shares / 2 }) }
+        ensures kept { OnOk result (known pass.new
+            ≡ record (known pass.old) { shares = (known pass.old).shares - (known pass.old).shares / 2 }) }
         ensures divided { IfOk result (λ _. 2 ≤ (known pass.old).shares) }
         ensures indivisible { IfErr result (λ _. (known pass.old).shares < 2) }
         ensures err { OnErr result (known pass.new ≡ known pass.old) }
@@ -200,10 +219,20 @@ impl<T: Chronicle> Turn<T> {
         requires away { (known pass.old).has_turn ≡ false }
         requires owns { OwnsSlot (known pass.old).owned client }
         ensures new { IfOk result (λ p. IsPassOf T.Chronicle self.now p) }
-        ensures given { IfOk result (λ p. known p ≡ record (known pass.old) { owned = only client (known pass.old).owned; client = client; turns = 0; shares = (known pass.old).shares / 2 }) }
+        ensures given { IfOk result (λ p. known p
+            ≡ record (known pass.old) {
+              owned = only client (known pass.old).owned;
+              client = client;
+              turns = 0;
+              shares = (known pass.old).shares / 2;
+            }) }
         ensures owner { IfOk result (λ p. OwnsSlot (known p).owned client) }
         ensures others { (slot : ℕ) → slot ≢ client → OwnsSlot (known pass.old).owned slot → OwnsSlot (known pass.new).owned slot }
-        ensures kept { OnOk result (known pass.new ≡ record (known pass.old) { owned = without client (known pass.old).owned; shares = (known pass.old).shares - (known pass.old).shares / 2 }) }
+        ensures kept { OnOk result (known pass.new
+            ≡ record (known pass.old) {
+              owned = without client (known pass.old).owned;
+              shares = (known pass.old).shares - (known pass.old).shares / 2;
+            }) }
         ensures divided { IfOk result (λ _. 2 ≤ (known pass.old).shares) }
         ensures indivisible { IfErr result (λ _. (known pass.old).shares < 2) }
         ensures err { OnErr result (known pass.new ≡ known pass.old) }
@@ -239,9 +268,17 @@ impl<T: Chronicle> Turn<T> {
         ensures others { IsPrefix (seen T.Chronicle other) (seen T.Chronicle pass.new) }
         ensures keeps { (slot : ℕ) → OwnsSlot (known pass.old).owned slot → OwnsSlot (known pass.new).owned slot }
         ensures takes_over { (slot : ℕ) → OwnsSlot (known other).owned slot → OwnsSlot (known pass.new).owned slot }
-        ensures known { known pass.new ≡ record (known pass.old) { seen = (known pass.new).seen; owned = (known pass.old).owned ++ (known other).owned; gone = (known pass.old).gone ++ (known other).gone; stopped = (known pass.old).stopped ++ (known other).stopped; shares = (known pass.old).shares + (known other).shares } }
-        ensures told { (client : ℕ) → OwnsSlot (known pass.old).owned client → Contains (known other).stopped client → Contains (known pass.old).stopped client }
-        ensures tells { (client : ℕ) → OwnsSlot (known other).owned client → Contains (known pass.old).stopped client → Contains (known other).stopped client }
+        ensures known { known pass.new ≡ record (known pass.old) {
+          seen = (known pass.new).seen;
+          owned = (known pass.old).owned ++ (known other).owned;
+          gone = (known pass.old).gone ++ (known other).gone;
+          stopped = (known pass.old).stopped ++ (known other).stopped;
+          shares = (known pass.old).shares + (known other).shares;
+        } }
+        ensures told { (client : ℕ) → OwnsSlot (known pass.old).owned client → Contains (known other).stopped client
+            → Contains (known pass.old).stopped client }
+        ensures tells { (client : ℕ) → OwnsSlot (known other).owned client → Contains (known pass.old).stopped client
+            → Contains (known other).stopped client }
         ensures pass { IsPassOf T.Chronicle self.now pass.new }
     {
         let Pass {
@@ -271,7 +308,8 @@ impl<T: Chronicle> Turn<T> {
     /// Looks whether a client has stopped, which the pass then knows. It waits for nobody.
     /// It is true where the pass knows it already, and of a client whose part the pass owns only then.
     /// A table that the lock may have is one that keeps the rule, and in which the pass knows what it knows after the look.
-    /// Where it is true, the client's word says so in some such table and in each, and every pass there that owns the client's part knows it. Where it is false, the word doesn't say so in some such table.
+    /// Where it is true, the client's word says so in some such table and in each, and every pass there that owns the client's part
+    /// knows it. Where it is false, the word doesn't say so in some such table.
     pub fn stopped(&self, pass: &mut Pass<T>, client: u32) -> bool
         requires pass { IsPassOf T.Chronicle self.now pass.old }
         requires client { IsClient client }
@@ -280,13 +318,15 @@ impl<T: Chronicle> Turn<T> {
         ensures true_of_owner { result ≡ true → SawStopped T.Chronicle self.now pass.new client }
         ensures true_in_all { result ≡ true → IsStoppedInAll T.Chronicle self.now pass.new client }
         ensures false_of_word { result ≡ false → SawRunning T.Chronicle self.now pass.new client }
-        ensures known { MatchBool result (known pass.new ≡ record (known pass.old) { stopped = client ∷ (known pass.old).stopped }) (known pass.new ≡ known pass.old) }
+        ensures known { MatchBool result (known pass.new
+            ≡ record (known pass.old) { stopped = client ∷ (known pass.old).stopped }) (known pass.new ≡ known pass.old) }
         ensures pass { IsPassOf T.Chronicle self.now pass.new }
     {
         see(&self.table.shared, &mut pass.place, client as usize) == 1
     }
 
-    /// Ends the lock. Where every ticket that was drawn is served as it ends, it gives the value that lies in the slot, and that is never so while the pass has the turn.
+    /// Ends the lock. Where every ticket that was drawn is served as it ends, it gives the value that lies in the slot, and that is
+    /// never so while the pass has the turn.
     /// Else it answers how many tickets were drawn and served, and a value that lies in the slot is dropped. It waits for nobody.
     /// A pass that has met all others, and is not inside, ends the lock with the value for certain.
     pub fn close(self, pass: Pass<T>) -> Result<T, TurnOut>

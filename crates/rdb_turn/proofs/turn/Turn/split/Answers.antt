@@ -1,4 +1,4 @@
-use Rattle.std.proofs.Common.{arith, ◌≡◌, ◌<◌}
+use Rattle.std.proofs.Common.{arith}
 use Rattle.rdb_turn.proofs.turn.Turn.split.Goals as goal
 
 pub returns-then-pass-lt2-clause-indivisible : goal.returns-then-pass-lt2-clause-indivisible
