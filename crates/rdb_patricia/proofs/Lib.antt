@@ -16,3 +16,9 @@ pub mod FinishLemmas
 pub mod EnterLemmas
 pub mod PartShape
 pub mod SplitLemmas
+pub mod GrownLemmas
+pub mod ChainLemmas
+pub mod BehindLemmas
+pub mod FirstLemmas
+pub mod AloneLemmas
+pub mod RemoveLemmas

@@ -136,7 +136,7 @@ entries_there said (Parted n bit zeros ones) shaped texts stops =
 
 -- the leaf to which bits lead
 module _ (said : Sayings) (image : Image) (first : ℕ) (trie : Trie) (part : IsPart image first (Some trie)) (keyed : IsKeyed said trie) (bits : ℕ → Bool) (spot : Spot) (reach : IsReached bits all_bits trie spot) where
-  leaf_entries : (p : Placed CellRef) × (ps : List (Placed CellRef)) × (reach.part ≡ Entries p ps)
+  pub leaf_entries : (p : Placed CellRef) × (ps : List (Placed CellRef)) × (reach.part ≡ Entries p ps)
   leaf_entries =
       entries_there said reach.part (part_shaped (text_at said) reach.turns reach.part (subst (IsShaped (text_at said)) reach.is keyed.shaped))
       (λ r within. keyed.texts r (subst (λ (t : Trie). Contains (versions t) r) (sym reach.is) (part_within reach.turns reach.part r within))) reach.stops
@@ -146,10 +146,10 @@ module _ (said : Sayings) (image : Image) (first : ℕ) (trie : Trie) (part : Is
       let rooted : IsPart image (root trie) (Some trie) = subst (λ (n : ℕ). IsPart image n (Some trie)) part.begins part in
       part_stands image reach.turns reach.part (subst (λ (t : Trie). IsPart image (root t) (Some t)) reach.is rooted)
 
-  leaf_part : IsPart image leaf_entries.0.number (Some (Entries leaf_entries.0 leaf_entries.1))
+  pub leaf_part : IsPart image leaf_entries.0.number (Some (Entries leaf_entries.0 leaf_entries.1))
   leaf_part = subst (λ (t : Trie). IsPart image (root t) (Some t)) leaf_entries.2 part_here
 
-  leaf_at : spot.at.number ≡ leaf_entries.0.number
+  pub leaf_at : spot.at.number ≡ leaf_entries.0.number
   leaf_at = reach.at ∙ ap root leaf_entries.2
 
   pub leaf_there : IsCell image spot.at.number

@@ -1,5 +1,5 @@
 -- What a change of the index owes, in one, and how each change is planned: which cells are taken, and what is put where.
-use Rattle.std.specs.Prelude.{◌≡◌, ◌≢◌, ◌+◌, ◌≤◌, ◌⊎◌, ℕ, List, [], ◌∷◌, length, Bool, cond, Some}
+use Rattle.std.specs.Prelude.{◌≡◌, ◌≢◌, ◌+◌, ◌≤◌, ◌⊎◌, ℕ, List, [], ◌∷◌, length, Bool, not, cond, Some}
 use Rattle.rdb_pages.specs.declared.cell.Cell.{Cell}
 use Rattle.rdb_pages.specs.declared.cell.CellRef.{CellRef}
 use Rattle.rdb_pages.specs.Pages.{zero_cell}
@@ -51,6 +51,10 @@ IsLowest w at = IsNextUntaken w.pairs w.below w.class_of w.class w.taken at.numb
 -- the branch with another cell on a side
 abbrev pub turned : Bool → PatriciaBranch → CellRef → PatriciaBranch
 turned one branch to = cond one (record branch { one_side = to }) (record branch { zero_side = to })
+
+-- the cell on a side of a branch
+abbrev pub side_cell : Bool → PatriciaBranch → CellRef
+side_cell one branch = cond one branch.one_side branch.zero_side
 
 -- a spot that has a parent hangs below a branch
 abbrev pub HasParent : Image → Spot → Type 0
@@ -137,7 +141,7 @@ pub record GoesFirst (head : CellRef) (spot : Spot) (found : Found) (before afte
 pub record GoesAlone (spot : Spot) (found : Found) (before after : Work) : Type 0 where
   pub was : HasKind (reading before) kind.PatriciaBranch spot.parent.number
   pub other : CellRef
-  pub other_is : other ≡ cond spot.one_side (branch_in was.0).zero_side (branch_in was.0).one_side
+  pub other_is : other ≡ side_cell (not spot.one_side) (branch_in was.0)
   pub cell : Cell
   pub here : reading before other.number ≡ Some cell
   pub planned : after ≡ putting (putting (putting before found.at zero_cell) other zero_cell) spot.parent cell

@@ -4,13 +4,7 @@ use Rattle.rdb_cells.specs.declared.formats.patricia.PatriciaBranch.{PatriciaBra
 use Rattle.rdb_cells.specs.PatriciaFormat.{branch_in}
 use Rattle.rdb_patricia.specs.Changes.{turned}
 use Rattle.rdb_patricia.proofs.ListingLemmas.{same_cell}
-use Rattle.rdb_patricia.proofs.EnterLemmas.{is_entered}
-use Rattle.rdb_patricia.proofs.PartShape.{parted_shaped}
-use Rattle.rdb_patricia.proofs.SplitLemmas.{is_parted}
-use Rattle.rdb_patricia.proofs.FinishLemmas.{is_put, is_removed}
-use Rattle.rdb_patricia.proofs.HungLemmas.{hung_led}
-use Rattle.rdb_patricia.proofs.NearLemmas.{nearest}
-use Rattle.rdb_patricia.proofs.ShapeLemmas.{plug_shaped}
+
 use Rattle.rdb_patricia.proofs.lead.leading.Goals as goal
 
 pub returns-clause-leads : goal.returns-clause-leads
