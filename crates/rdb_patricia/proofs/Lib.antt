@@ -22,3 +22,6 @@ pub mod BehindLemmas
 pub mod FirstLemmas
 pub mod AloneLemmas
 pub mod RemoveLemmas
+pub mod PutLemmas
+pub mod LongestLemmas
+pub mod FoundLemmas

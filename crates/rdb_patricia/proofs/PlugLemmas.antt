@@ -60,7 +60,7 @@ part_within [] trie r within = within
 part_within (t ∷ ts) trie r within = part_within ts (turned_trie t trie) r (side_within t.is_one t.number t.bit t.other trie r within)
 
 -- a side of a branch stands for itself
-zeros_stand : (image : Image) (n bit : ℕ) (zeros ones : Trie) → IsPart image n (Some (Parted n bit zeros ones)) → IsPart image (root zeros) (Some zeros)
+pub zeros_stand : (image : Image) (n bit : ℕ) (zeros ones : Trie) → IsPart image n (Some (Parted n bit zeros ones)) → IsPart image (root zeros) (Some zeros)
 zeros_stand image n bit zeros ones part =
     let sides = stand_parts IsWritten image (trie_nodes zeros) (trie_nodes ones) part.apart.stand.1 in
     let once = once_parts (numbers (trie_nodes zeros)) (numbers (trie_nodes ones)) (subst AreOnce (numbers_append (trie_nodes zeros) (trie_nodes ones)) part.apart.once.1) in
@@ -70,7 +70,7 @@ zeros_stand image n bit zeros ones part =
       paged = λ m within. part.paged m (inr (subst (λ (ns : List ℕ). IsAmong ns m) (sym (numbers_append (trie_nodes zeros) (trie_nodes ones))) (among_front (numbers (trie_nodes zeros)) (numbers (trie_nodes ones)) m within)));
     }
 
-ones_stand : (image : Image) (n bit : ℕ) (zeros ones : Trie) → IsPart image n (Some (Parted n bit zeros ones)) → IsPart image (root ones) (Some ones)
+pub ones_stand : (image : Image) (n bit : ℕ) (zeros ones : Trie) → IsPart image n (Some (Parted n bit zeros ones)) → IsPart image (root ones) (Some ones)
 ones_stand image n bit zeros ones part =
     let sides = stand_parts IsWritten image (trie_nodes zeros) (trie_nodes ones) part.apart.stand.1 in
     let once = once_parts (numbers (trie_nodes zeros)) (numbers (trie_nodes ones)) (subst AreOnce (numbers_append (trie_nodes zeros) (trie_nodes ones)) part.apart.once.1) in

@@ -42,7 +42,7 @@ module _ (key : Texts) where
   branch_alike true n b o part shaped = shaped.0.alike
   branch_alike false n b o part shaped = shaped.0.alike
 
-  side_below : (one : Bool) (n b : ℕ) (o part : Trie) → IsShaped key (branched one n b o part) → IsBelow b part
+  pub side_below : (one : Bool) (n b : ℕ) (o part : Trie) → IsShaped key (branched one n b o part) → IsBelow b part
   side_below true n b o part shaped = shaped.0.ones_below
   side_below false n b o part shaped = shaped.0.zeros_below
 

@@ -1,5 +1,5 @@
 -- What a walk down the tree finds.
-use Rattle.std.specs.Prelude.{◌≡◌, ◌≢◌, ◌≤◌, ◌<◌, ◌++◌, ℕ, List, [], ◌∷◌, Option, Some, Bool, false, cond, filter, Contains}
+use Rattle.std.specs.Prelude.{◌≡◌, ◌≢◌, ◌≤◌, ◌<◌, ◌++◌, ◌%◌, ◌&&◌, ◌==◌, ℕ, List, [], ◌∷◌, Option, Some, Bool, false, cond, filter, Contains}
 use Rattle.rdb_pages.specs.declared.cell.CellRef.{CellRef}
 use Rattle.rdb_cells.specs.Images.{Image}
 use Rattle.rdb_cells.specs.Keys.{Meaning, Sayings, says}
@@ -10,7 +10,7 @@ use Rattle.rdb_patricia.specs.declared.how.How.{How}
 use Rattle.rdb_patricia.specs.declared.walk.Found.{Found}
 use Rattle.rdb_patricia.specs.declared.walk.Leaf.{Leaf}
 use Rattle.rdb_patricia.specs.declared.walk.Spot.{Spot}
-use Rattle.rdb_patricia.specs.Bits.{all_bits, text_at, HasTextKey}
+use Rattle.rdb_patricia.specs.Bits.{bits_of_byte, all_bits, text_at, HasTextKey}
 use Rattle.rdb_patricia.specs.Lookup.{matches}
 use Rattle.rdb_patricia.specs.Shape.{Texts, IsShaped}
 use Rattle.rdb_patricia.specs.Trie.{Trie, Entries, Parted, IsWritten, root, root_of, nodes_of, versions, versions_of}
@@ -80,6 +80,24 @@ pub record IsReached (bits : ℕ → Bool) (limit : ℕ) (trie : Trie) (spot : S
   pub stops : StopsAt limit part
   pub parent : spot.parent.number ≡ parent_of turns
   pub side : spot.one_side ≡ side_of turns
+
+-- a key ends beside a turn to the side of 1 at a bit that says whether there is a byte
+abbrev pub ends_beside : Turn → Bool
+ends_beside t = t.is_one && (t.bit % bits_of_byte == 0)
+
+-- where the last key begins that ends beside the turns, 0 where none does
+abbrev pub last_ended : List Turn → ℕ
+last_ended [] = 0
+last_ended (t ∷ ts) = cond (ends_beside t) (root t.other) (last_ended ts)
+
+-- the turns lead by these bits, each below the limit, from a trie to a part of it, and the last key that ends beside them begins here
+pub record HasEnded (bits : ℕ → Bool) (limit : ℕ) (trie : Trie) (last_at : ℕ) : Type 0 where
+  pub turns : List Turn
+  pub part : Trie
+  pub is : trie ≡ plug turns part
+  pub follows : Follows bits limit turns
+  pub stops : StopsAt limit part
+  pub last : last_at ≡ last_ended turns
 
 -- the next cell is this one, or else the last of those that wait, which goes from them
 pub data IsNext (at : CellRef) (waiting : List CellRef) (next : CellRef) (now : List CellRef) : Type 0 where

@@ -4,7 +4,7 @@
 //! |----------------|-------------------------------------------------|
 //! | 9j             | 1 where the text has a byte j, and 0 at its end |
 //! | 9j + 1 to + 8  | the bits of byte j, the highest first           |
-ghost use Rattle.std.specs.Prelude.{◌≡◌, ◌≢◌, ◌<◌, ℕ, Some, IfSome, slice_get};
+ghost use Rattle.std.specs.Prelude.{◌≡◌, ◌≢◌, ◌<◌, ◌%◌, ◌↔◌, ℕ, false, Some, IfSome, IsTrue, slice_get};
 ghost use Rattle.rdb_cells.specs.Keys.{says};
 ghost use Rattle.rdb_patricia.specs.Bits.{bit_in, bit_at, bits_of_byte, all_bits, text_at, HasTextKey, IsParting};
 
@@ -55,6 +55,15 @@ pub fn key_bit<C: Cells, K: Keys>(cells: &C, keys: &K, version: CellRef, number:
         keys.byte(cells, version, number / BITS_OF_BYTE),
         number % BITS_OF_BYTE,
     )
+}
+
+/// Returns whether a bit with this number says that a version's key has ended.
+pub fn key_ends<C: Cells, K: Keys>(cells: &C, keys: &K, version: CellRef, number: u32) -> bool
+    requires { HasTextKey (says (K.meaning keys.now) (C.image cells.now)) version }
+    ensures { IsTrue result ↔ ((number % bits_of_byte ≡ 0)
+        × (bit_at (text_at (says (K.meaning keys.now) (C.image cells.now)) version) number ≡ false)) }
+{
+    number % BITS_OF_BYTE == 0 && !key_bit(cells, keys, version, number)
 }
 
 /// Returns the first of the nine bits in which two bytes differ.

@@ -4,7 +4,7 @@ ghost use Rattle.rdb_cells.specs.Keys.{says};
 ghost use Rattle.rdb_patricia.specs.Bits.{text_at};
 ghost use Rattle.rdb_patricia.specs.Walks.{HasKeyedTrie, WhateverKeyed, GivesPart};
 
-use crate::bits::{BITS_OF_BYTE, LONGEST_KEY, key_bit, parting_of_text};
+use crate::bits::{BITS_OF_BYTE, LONGEST_KEY, key_ends, parting_of_text};
 use crate::how::How;
 use crate::walk::{down_by_text, last_end, leaf_by_text};
 use rdb_cells::{Cells, Keys, NONE};
@@ -52,8 +52,13 @@ fn longest<C: Cells, K: Keys>(cells: &C, keys: &K, root: CellRef, text: &str) ->
     let leaf = leaf_by_text(cells, root, text);
     match parting_of_text(cells, keys, leaf.version, text) {
         None => leaf.at,
-        Some(bit) if bit % BITS_OF_BYTE == 0 && !key_bit(cells, keys, leaf.version, bit) => leaf.at,
-        Some(bit) => last_end(cells, root, text, bit),
+        Some(bit) => {
+            if key_ends(cells, keys, leaf.version, bit) {
+                leaf.at
+            } else {
+                last_end(cells, root, text, bit)
+            }
+        }
     }
 }
 

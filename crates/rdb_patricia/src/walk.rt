@@ -1,10 +1,10 @@
 //! Walks down the tree and along the entries of a key. They read cells alone.
-ghost use Rattle.std.specs.Prelude.{◌≡◌, ◌↔◌, [], OnOk, IfNone, IfSome, IsTrue, cond};
+ghost use Rattle.std.specs.Prelude.{◌≡◌, ◌==◌, ◌&&◌, ◌%◌, ◌↔◌, [], OnOk, IfNone, IfSome, IsTrue, cond};
 ghost use Rattle.rdb_cells.specs.Keys.{Sayings, says};
 ghost use Rattle.rdb_cells.specs.PatriciaFormat.{branch_in, patricia_entry_in};
 ghost use Rattle.rdb_cells.specs.Words.{IsOfKind};
-ghost use Rattle.rdb_patricia.specs.Bits.{bit_at, text_at, HasTextKey};
-ghost use Rattle.rdb_patricia.specs.Walks.{HasPart, HasTrie, WhateverTrie, ListsBelow, IsNext, IsReached};
+ghost use Rattle.rdb_patricia.specs.Bits.{bit_at, bits_of_byte, text_at, HasTextKey};
+ghost use Rattle.rdb_patricia.specs.Walks.{HasPart, HasTrie, WhateverTrie, ListsBelow, IsNext, IsReached, HasEnded};
 ghost use Rattle.rdb_patricia.specs.Walks.{HasShapedTrie, IsKeyed, IsLeaf, HasEntry, WhateverEntries, IsAt};
 
 use crate::bits::{ALL_BITS, BITS_OF_BYTE, key_bit, text_bit};
@@ -153,10 +153,23 @@ pub fn down_by_key<C: Cells, K: Keys>(
     unreachable!()
 }
 
-/// Returns the entries of the longest key that ends on the way down by a text, above the limit, `NONE` where there is none.
-/// A key ends there where its side of a branch is 0 and the branch asks for a byte that the text has.
+/// Returns where the keys go on that end at a branch, where the way goes on to its side of 1: its side of 0, if the bit says
+/// whether there is a byte. Else what it was.
+fn ended(branch: &PatriciaBranch, one_side: bool, last: CellRef) -> CellRef
+    ensures { result ≡ cond (one_side && (branch.now.bit % bits_of_byte == 0)) branch.now.zero_side last }
+{
+    if one_side && branch.bit % BITS_OF_BYTE == 0 {
+        branch.zero_side
+    } else {
+        last
+    }
+}
+
+/// Returns the entries of the last key that ends on the way down by a text, above the limit, `NONE` where there is none. The
+/// cost is that of `down_by_text`.
 pub fn last_end<C: Cells>(cells: &C, root: CellRef, text: &str, limit: u32) -> CellRef
     requires { HasTrie (C.image cells.now) root.number }
+    ensures { WhateverTrie (C.image cells.now) root.number (λ trie. HasEnded (bit_at text.now) limit trie result.number) }
 {
     let mut last = NONE;
     let mut at = root;
@@ -168,9 +181,7 @@ pub fn last_end<C: Cells>(cells: &C, root: CellRef, text: &str, limit: u32) -> C
             return last;
         }
         let one_side = text_bit(text, branch.bit);
-        if one_side && branch.bit % BITS_OF_BYTE == 0 {
-            last = branch.zero_side;
-        }
+        last = ended(&branch, one_side, last);
         at = side(&branch, one_side);
     }
     unreachable!()
