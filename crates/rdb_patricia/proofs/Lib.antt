@@ -25,3 +25,4 @@ pub mod RemoveLemmas
 pub mod PutLemmas
 pub mod LongestLemmas
 pub mod FoundLemmas
+pub mod EmptyPatricia

@@ -48,8 +48,8 @@ not_or false m n bound = refl
 not_or true m n bound = le-leb m n (bound refl)
 
 or_bound : (a : Bool) (m n : ℕ) → (not a || nat_le m n) ≡ true → a ≡ true → m ≤ n
-or_bound true m n either yes = leb-true m n either
-or_bound false m n either yes = absurd (false≢true yes)
+or_bound true m n either is = leb-true m n either
+or_bound false m n either is = absurd (false≢true is)
 
 -- Texts
 take_whole : (t : List ℕ) (k : ℕ) → length t ≤ k → take k t ≡ t
@@ -168,9 +168,9 @@ module _ (said : Sayings) (image : Image) (first : ℕ) (trie : Trie) (part : Is
         ∙ leaf_found
 
     others_not : (r : CellRef) → Beside is_leaf.turns r → found r ≡ false
-    others_not r beside = true_or_false (found r) (λ yes.
-        let begins = both_left (begins_with text (text_at said r)) (is_longest_of text (length (text_at said r)) (text_at said) (versions trie)) yes in
-        let longest = both_right (begins_with text (text_at said r)) (is_longest_of text (length (text_at said r)) (text_at said) (versions trie)) yes in
+    others_not r beside = true_or_false (found r) (λ matched.
+        let begins = both_left (begins_with text (text_at said r)) (is_longest_of text (length (text_at said r)) (text_at said) (versions trie)) matched in
+        let longest = both_right (begins_with text (text_at said r)) (is_longest_of text (length (text_at said r)) (text_at said) (versions trie)) matched in
         let least = or_bound (begins_with text (text_at said leaf.version)) (length (text_at said leaf.version)) (length (text_at said r))
         (true_at (λ q. not (begins_with text (text_at said q)) || nat_le (length (text_at said q)) (length (text_at said r))) (versions trie) longest leaf.version leaf_listed) head in
         let r_in : Contains (versions trie) r = subst (λ (t : Trie). Contains (versions t) r) (sym is_leaf.is) (beside_within is_leaf.turns (Entries is_leaf.first is_leaf.others) r beside) in
@@ -249,11 +249,11 @@ other_stands image false n b o part stands = ones_stand image n b part o stands
 
 last_stands : (image : Image) (turns : List Turn) (part : Trie) → IsPart image (root (plug turns part)) (Some (plug turns part)) → IsPart image (last_ended turns) (last_part turns)
 last_stands image [] part stands = none_part image
-last_stands image (t ∷ ts) part stands = by_end (ends_beside t)
+last_stands image (t ∷ ts) part stands = by_end (ends_beside t) (last_stands image ts (turned_trie t part) stands)
   where
-    by_end : (e : Bool) → IsPart image (cond e (root t.other) (last_ended ts)) (cond e (Some t.other) (last_part ts))
-    by_end true = other_stands image t.is_one t.number t.bit t.other part (part_stands image ts (turned_trie t part) stands)
-    by_end false = last_stands image ts (turned_trie t part) stands
+    by_end : (e : Bool) → IsPart image (last_ended ts) (last_part ts) → IsPart image (cond e (root t.other) (last_ended ts)) (cond e (Some t.other) (last_part ts))
+    by_end true above = other_stands image t.is_one t.number t.bit t.other part (part_stands image ts (turned_trie t part) stands)
+    by_end false above = above
 
 side_kept : (f : CellRef → Bool) (one : Bool) (n b : ℕ) (o part : Trie) → ((r : CellRef) → Contains (versions o) r → f r ≡ true) → ((r : CellRef) → Contains (versions part) r → f r ≡ false) → filter f (versions (branched one n b o part)) ≡ versions o
 side_kept f true n b o part all none =
@@ -289,8 +289,8 @@ module _ (key : Texts) (text : List ℕ) (text_bytes : AreBytes text) (trie : Tr
           (true_or_false (bit_at (key r) t.bit) (λ some. first.differ (some ∙ sym goes))) goes
         where
           zero_when : (n : ℕ) → (n == 0) ≡ true → n ≡ 0
-          zero_when zero yes = refl
-          zero_when (suc n) yes = absurd (false≢true yes)
+          zero_when zero is_zero = refl
+          zero_when (suc n) is_zero = absurd (false≢true is_zero)
 
       above_shorter : (r : CellRef) → Beside ts r → begins_with text (key r) ≡ true → 9 * length (key r) < t.bit
       above_shorter r beside begins =
@@ -313,9 +313,9 @@ module _ (key : Texts) (text : List ℕ) (text_bytes : AreBytes text) (trie : Tr
           ]
 
       above_not : (r : CellRef) → Beside ts r → longest r ≡ false
-      above_not r beside = true_or_false (longest r) (λ yes.
-          let begins = both_left (begins_with text (key r)) (is_longest_of text (length (key r)) key (versions trie)) yes in
-          let all = both_right (begins_with text (key r)) (is_longest_of text (length (key r)) key (versions trie)) yes in
+      above_not r beside = true_or_false (longest r) (λ matched.
+          let begins = both_left (begins_with text (key r)) (is_longest_of text (length (key r)) key (versions trie)) matched in
+          let all = both_right (begins_with text (key r)) (is_longest_of text (length (key r)) key (versions trie)) matched in
           let q = some_version t.other in
           let head = other_head q.0 q.1 in
           let long = head.1 in
@@ -344,11 +344,12 @@ module _ (key : Texts) (text : List ℕ) (text_bytes : AreBytes text) (trie : Tr
   -- so the last one is the longest
   pub last_these : (turns : List Turn) (x : Trie) → trie ≡ plug turns x → IsShaped key (plug turns x) → Parts key text turns → ((r : CellRef) → Contains (versions x) r → begins_with text (key r) ≡ false) → filter longest (versions trie) ≡ versions_of (last_part turns)
   last_these [] x is shaped parts none = filter_none longest (versions trie) (λ r within. not_head r (none r (subst (λ (u : Trie). Contains (versions u) r) is within)))
-  last_these (t ∷ ts) x is shaped parts none = by_end (ends_beside t) refl
+  last_these (t ∷ ts) x is shaped parts none =
+      by_end (ends_beside t) refl (λ ends. last_these ts (turned_trie t x) is shaped parts.2 (none_here t ts x is shaped parts none ends))
     where
-      by_end : (e : Bool) → ends_beside t ≡ e → filter longest (versions trie) ≡ versions_of (cond e (Some t.other) (last_part ts))
-      by_end true ends = ended_here t ts x is shaped parts none ends
-      by_end false ends = last_these ts (turned_trie t x) is shaped parts.2 (none_here t ts x is shaped parts none ends)
+      by_end : (e : Bool) → ends_beside t ≡ e → (ends_beside t ≡ false → filter longest (versions trie) ≡ versions_of (last_part ts)) → filter longest (versions trie) ≡ versions_of (cond e (Some t.other) (last_part ts))
+      by_end true ends above = ended_here t ts x is shaped parts none ends
+      by_end false ends above = above ends
 
 -- where the nearest key isn't at the text's head
 module _ (said : Sayings) (image : Image) (first : ℕ) (trie : Trie) (here : IsPart image first (Some trie)) (keyed : IsKeyed said trie) (text : List ℕ) (text_bytes : AreBytes text) (near : CellRef) (near_in : Contains (versions trie) near) (is_nearest : IsNearest (text_at said) (bit_at text) trie near)

@@ -129,7 +129,7 @@ bytes_of [] all place byte is = absurd (false≢true (ap is_some is))
 bytes_of (x ∷ xs) all zero byte is = subst (λ (n : ℕ). n < 256) (ap (λ (o : Option ℕ). option_map_or (λ k. k) o x) is) (all 0)
 bytes_of (x ∷ xs) all (suc place) byte is = bytes_of xs (λ i. all (suc i)) place byte is
 
-some_byte : (t : List ℕ) (n : ℕ) → n < length t → (x : ℕ) × (slice_get t n ≡ Some x)
+pub some_byte : (t : List ℕ) (n : ℕ) → n < length t → (x : ℕ) × (slice_get t n ≡ Some x)
 some_byte [] n below = absurd (omega arith)
 some_byte (x ∷ xs) zero below = (x, refl)
 some_byte (x ∷ xs) (suc n) below = some_byte xs n (omega arith)

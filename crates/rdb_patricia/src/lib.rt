@@ -9,8 +9,6 @@ mod lead;
 mod lookup;
 mod patricia;
 #[cfg(test)]
-mod spelled;
-#[cfg(test)]
 mod tests;
 mod walk;
 

@@ -20,4 +20,4 @@ loop-preserved g c = λ trie part.
     let reads : IsRead c.read.result.now c.node_in.result = record { branch = c.node_in.ensures.branch; entry = c.node_in.ensures.entry } in
     let low : c.in-Branch.branch.bit < c.args.limit = omega arith in
     passing_more (bit_at c.args.text.now) c.args.limit (g.C.Cells.image c.args.cells.now) trie c.loop.counter c.loop.at c.loop.last (c.loop.invariant trie part) c.read.result.now c.read.ensures c.node_in.result reads
-    c.in-Branch.branch c.in-Branch.is low c.text_bit-one_side.result c.text_bit-one_side.ensures c.side.result c.side.ensures c.ended.result c.ended.ensures
+    c.in-Branch.branch c.in-Branch.is low c.text_bit-one_side.result c.text_bit-one_side.ensures c.side-at.result c.side-at.ensures c.ended-last.result c.ended-last.ensures

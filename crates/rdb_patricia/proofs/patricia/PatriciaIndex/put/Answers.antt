@@ -10,8 +10,8 @@ pub root-root-requires : goal.root-root-requires
 root-root-requires g c =
     (c.requires.lacks.lists.first, c.requires.lacks.lists.stand.leads)
 
-pub enter-requires-then-eq-clause-head : goal.enter-requires-then-eq-clause-head
-enter-requires-then-eq-clause-head g c =
+pub enter-requires-clause-head : goal.enter-requires-clause-head
+enter-requires-clause-head g c =
     put_head c.args.self.now.class c.args.self.now.head (g.K.Keys.meaning c.args.keys.now) (g.met.K.Keys.rests_on_versions c.args.keys.now) (work g.C.Cells c.args.cells.now) c.root-root.result c.root-root.ensures c.args.version c.requires.lacks
 
 pub down_by_key-near-requires-clause-part : goal.down_by_key-near-requires-clause-part

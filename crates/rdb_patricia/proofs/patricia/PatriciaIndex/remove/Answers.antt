@@ -101,73 +101,73 @@ returns-then-ne-clause-room g c =
     let behind : c.find-found.result.before.number ≢ 0 = search rules in
     (gone_behind c.args.self.now.class c.args.self.now.head c.down_by_key-spot.result c.find-found.result c.args.version (work g.C.Cells c.args.cells.now) _ c.take_behind.ensures.goes behind (at_kind c.args.self.now.head (says (g.K.Keys.meaning c.args.keys.now) (reading (work g.C.Cells c.args.cells.now))) (reading (work g.C.Cells c.args.cells.now)) c.root-root.result c.root-root.ensures c.args.version c.down_by_key-spot.result c.down_by_key-spot.ensures c.requires.has.listed c.requires.has.nodes c.requires.has.lists c.requires.has.within c.find-found.result c.find-found.ensures c.requires.has.listed c.requires.has.nodes c.requires.has.lists) (before_kind c.args.self.now.head (says (g.K.Keys.meaning c.args.keys.now) (reading (work g.C.Cells c.args.cells.now))) (reading (work g.C.Cells c.args.cells.now)) c.root-root.result c.root-root.ensures c.args.version c.down_by_key-spot.result c.down_by_key-spot.ensures c.requires.has.listed c.requires.has.nodes c.requires.has.lists c.requires.has.within c.find-found.result c.find-found.ensures c.requires.has.listed c.requires.has.nodes c.requires.has.lists behind) (g.K.Keys.meaning c.args.keys.now) (g.met.K.Keys.rests_on_versions c.args.keys.now) (λ listed nodes stands. sits c.args.self.now.head (says (g.K.Keys.meaning c.args.keys.now) (reading (work g.C.Cells c.args.cells.now))) (reading (work g.C.Cells c.args.cells.now)) c.root-root.result c.root-root.ensures c.args.version c.down_by_key-spot.result c.down_by_key-spot.ensures c.requires.has.listed c.requires.has.nodes c.requires.has.lists c.requires.has.within c.find-found.result c.find-found.ensures listed nodes stands)).room
 
-pub returns-then-or-clause-removes : goal.returns-then-or-clause-removes
-returns-then-or-clause-removes g c =
+pub returns-then-eq-clause-removes : goal.returns-then-eq-clause-removes
+returns-then-eq-clause-removes g c =
     let none : c.find-found.result.before.number ≡ 0 = search rules in
     (gone_first c.args.self.now.class c.args.self.now.head c.down_by_key-spot.result c.find-found.result c.args.version (work g.C.Cells c.args.cells.now) _ c.take_first.ensures.goes none (search rules) (at_kind c.args.self.now.head (says (g.K.Keys.meaning c.args.keys.now) (reading (work g.C.Cells c.args.cells.now))) (reading (work g.C.Cells c.args.cells.now)) c.root-root.result c.root-root.ensures c.args.version c.down_by_key-spot.result c.down_by_key-spot.ensures c.requires.has.listed c.requires.has.nodes c.requires.has.lists c.requires.has.within c.find-found.result c.find-found.ensures c.requires.has.listed c.requires.has.nodes c.requires.has.lists) (g.K.Keys.meaning c.args.keys.now) (g.met.K.Keys.rests_on_versions c.args.keys.now) (λ listed nodes stands. sits c.args.self.now.head (says (g.K.Keys.meaning c.args.keys.now) (reading (work g.C.Cells c.args.cells.now))) (reading (work g.C.Cells c.args.cells.now)) c.root-root.result c.root-root.ensures c.args.version c.down_by_key-spot.result c.down_by_key-spot.ensures c.requires.has.listed c.requires.has.nodes c.requires.has.lists c.requires.has.within c.find-found.result c.find-found.ensures listed nodes stands)).removes
 
-pub returns-then-or-clause-own : goal.returns-then-or-clause-own
-returns-then-or-clause-own g c =
+pub returns-then-eq-clause-own : goal.returns-then-eq-clause-own
+returns-then-eq-clause-own g c =
     let none : c.find-found.result.before.number ≡ 0 = search rules in
     (gone_first c.args.self.now.class c.args.self.now.head c.down_by_key-spot.result c.find-found.result c.args.version (work g.C.Cells c.args.cells.now) _ c.take_first.ensures.goes none (search rules) (at_kind c.args.self.now.head (says (g.K.Keys.meaning c.args.keys.now) (reading (work g.C.Cells c.args.cells.now))) (reading (work g.C.Cells c.args.cells.now)) c.root-root.result c.root-root.ensures c.args.version c.down_by_key-spot.result c.down_by_key-spot.ensures c.requires.has.listed c.requires.has.nodes c.requires.has.lists c.requires.has.within c.find-found.result c.find-found.ensures c.requires.has.listed c.requires.has.nodes c.requires.has.lists) (g.K.Keys.meaning c.args.keys.now) (g.met.K.Keys.rests_on_versions c.args.keys.now) (λ listed nodes stands. sits c.args.self.now.head (says (g.K.Keys.meaning c.args.keys.now) (reading (work g.C.Cells c.args.cells.now))) (reading (work g.C.Cells c.args.cells.now)) c.root-root.result c.root-root.ensures c.args.version c.down_by_key-spot.result c.down_by_key-spot.ensures c.requires.has.listed c.requires.has.nodes c.requires.has.lists c.requires.has.within c.find-found.result c.find-found.ensures listed nodes stands)).own
 
-pub returns-then-or-clause-versions : goal.returns-then-or-clause-versions
-returns-then-or-clause-versions g c =
+pub returns-then-eq-clause-versions : goal.returns-then-eq-clause-versions
+returns-then-eq-clause-versions g c =
     let none : c.find-found.result.before.number ≡ 0 = search rules in
     (gone_first c.args.self.now.class c.args.self.now.head c.down_by_key-spot.result c.find-found.result c.args.version (work g.C.Cells c.args.cells.now) _ c.take_first.ensures.goes none (search rules) (at_kind c.args.self.now.head (says (g.K.Keys.meaning c.args.keys.now) (reading (work g.C.Cells c.args.cells.now))) (reading (work g.C.Cells c.args.cells.now)) c.root-root.result c.root-root.ensures c.args.version c.down_by_key-spot.result c.down_by_key-spot.ensures c.requires.has.listed c.requires.has.nodes c.requires.has.lists c.requires.has.within c.find-found.result c.find-found.ensures c.requires.has.listed c.requires.has.nodes c.requires.has.lists) (g.K.Keys.meaning c.args.keys.now) (g.met.K.Keys.rests_on_versions c.args.keys.now) (λ listed nodes stands. sits c.args.self.now.head (says (g.K.Keys.meaning c.args.keys.now) (reading (work g.C.Cells c.args.cells.now))) (reading (work g.C.Cells c.args.cells.now)) c.root-root.result c.root-root.ensures c.args.version c.down_by_key-spot.result c.down_by_key-spot.ensures c.requires.has.listed c.requires.has.nodes c.requires.has.lists c.requires.has.within c.find-found.result c.find-found.ensures listed nodes stands)).versions
 
-pub returns-then-or-clause-takes_none : goal.returns-then-or-clause-takes_none
-returns-then-or-clause-takes_none g c =
+pub returns-then-eq-clause-takes_none : goal.returns-then-eq-clause-takes_none
+returns-then-eq-clause-takes_none g c =
     let none : c.find-found.result.before.number ≡ 0 = search rules in
     (gone_first c.args.self.now.class c.args.self.now.head c.down_by_key-spot.result c.find-found.result c.args.version (work g.C.Cells c.args.cells.now) _ c.take_first.ensures.goes none (search rules) (at_kind c.args.self.now.head (says (g.K.Keys.meaning c.args.keys.now) (reading (work g.C.Cells c.args.cells.now))) (reading (work g.C.Cells c.args.cells.now)) c.root-root.result c.root-root.ensures c.args.version c.down_by_key-spot.result c.down_by_key-spot.ensures c.requires.has.listed c.requires.has.nodes c.requires.has.lists c.requires.has.within c.find-found.result c.find-found.ensures c.requires.has.listed c.requires.has.nodes c.requires.has.lists) (g.K.Keys.meaning c.args.keys.now) (g.met.K.Keys.rests_on_versions c.args.keys.now) (λ listed nodes stands. sits c.args.self.now.head (says (g.K.Keys.meaning c.args.keys.now) (reading (work g.C.Cells c.args.cells.now))) (reading (work g.C.Cells c.args.cells.now)) c.root-root.result c.root-root.ensures c.args.version c.down_by_key-spot.result c.down_by_key-spot.ensures c.requires.has.listed c.requires.has.nodes c.requires.has.lists c.requires.has.within c.find-found.result c.find-found.ensures listed nodes stands)).takes_none
 
-pub returns-then-or-clause-places : goal.returns-then-or-clause-places
-returns-then-or-clause-places g c =
+pub returns-then-eq-clause-places : goal.returns-then-eq-clause-places
+returns-then-eq-clause-places g c =
     let none : c.find-found.result.before.number ≡ 0 = search rules in
     (gone_first c.args.self.now.class c.args.self.now.head c.down_by_key-spot.result c.find-found.result c.args.version (work g.C.Cells c.args.cells.now) _ c.take_first.ensures.goes none (search rules) (at_kind c.args.self.now.head (says (g.K.Keys.meaning c.args.keys.now) (reading (work g.C.Cells c.args.cells.now))) (reading (work g.C.Cells c.args.cells.now)) c.root-root.result c.root-root.ensures c.args.version c.down_by_key-spot.result c.down_by_key-spot.ensures c.requires.has.listed c.requires.has.nodes c.requires.has.lists c.requires.has.within c.find-found.result c.find-found.ensures c.requires.has.listed c.requires.has.nodes c.requires.has.lists) (g.K.Keys.meaning c.args.keys.now) (g.met.K.Keys.rests_on_versions c.args.keys.now) (λ listed nodes stands. sits c.args.self.now.head (says (g.K.Keys.meaning c.args.keys.now) (reading (work g.C.Cells c.args.cells.now))) (reading (work g.C.Cells c.args.cells.now)) c.root-root.result c.root-root.ensures c.args.version c.down_by_key-spot.result c.down_by_key-spot.ensures c.requires.has.listed c.requires.has.nodes c.requires.has.lists c.requires.has.within c.find-found.result c.find-found.ensures listed nodes stands)).places
 
-pub returns-then-or-clause-room : goal.returns-then-or-clause-room
-returns-then-or-clause-room g c =
+pub returns-then-eq-clause-room : goal.returns-then-eq-clause-room
+returns-then-eq-clause-room g c =
     let none : c.find-found.result.before.number ≡ 0 = search rules in
     (gone_first c.args.self.now.class c.args.self.now.head c.down_by_key-spot.result c.find-found.result c.args.version (work g.C.Cells c.args.cells.now) _ c.take_first.ensures.goes none (search rules) (at_kind c.args.self.now.head (says (g.K.Keys.meaning c.args.keys.now) (reading (work g.C.Cells c.args.cells.now))) (reading (work g.C.Cells c.args.cells.now)) c.root-root.result c.root-root.ensures c.args.version c.down_by_key-spot.result c.down_by_key-spot.ensures c.requires.has.listed c.requires.has.nodes c.requires.has.lists c.requires.has.within c.find-found.result c.find-found.ensures c.requires.has.listed c.requires.has.nodes c.requires.has.lists) (g.K.Keys.meaning c.args.keys.now) (g.met.K.Keys.rests_on_versions c.args.keys.now) (λ listed nodes stands. sits c.args.self.now.head (says (g.K.Keys.meaning c.args.keys.now) (reading (work g.C.Cells c.args.cells.now))) (reading (work g.C.Cells c.args.cells.now)) c.root-root.result c.root-root.ensures c.args.version c.down_by_key-spot.result c.down_by_key-spot.ensures c.requires.has.listed c.requires.has.nodes c.requires.has.lists c.requires.has.within c.find-found.result c.find-found.ensures listed nodes stands)).room
 
-pub returns-else-or-clause-removes : goal.returns-else-or-clause-removes
-returns-else-or-clause-removes g c =
+pub returns-else-eq-clause-removes : goal.returns-else-eq-clause-removes
+returns-else-eq-clause-removes g c =
     let none : c.find-found.result.before.number ≡ 0 = search rules in
     let last : c.find-found.result.next.number ≡ 0 = search rules in
     let parent : c.down_by_key-spot.result.parent.number ≢ 0 = search rules in
     (gone_alone c.args.self.now.class c.args.self.now.head c.down_by_key-spot.result c.find-found.result c.args.version (work g.C.Cells c.args.cells.now) _ c.take_alone.ensures.goes (at_kind c.args.self.now.head (says (g.K.Keys.meaning c.args.keys.now) (reading (work g.C.Cells c.args.cells.now))) (reading (work g.C.Cells c.args.cells.now)) c.root-root.result c.root-root.ensures c.args.version c.down_by_key-spot.result c.down_by_key-spot.ensures c.requires.has.listed c.requires.has.nodes c.requires.has.lists c.requires.has.within c.find-found.result c.find-found.ensures c.requires.has.listed c.requires.has.nodes c.requires.has.lists) (other_kind c.args.self.now.head (says (g.K.Keys.meaning c.args.keys.now) (reading (work g.C.Cells c.args.cells.now))) (reading (work g.C.Cells c.args.cells.now)) c.root-root.result c.root-root.ensures c.args.version c.down_by_key-spot.result c.down_by_key-spot.ensures c.requires.has.listed c.requires.has.nodes c.requires.has.lists c.requires.has.within c.find-found.result c.find-found.ensures c.requires.has.listed c.requires.has.nodes c.requires.has.lists none last parent c.take_alone.ensures.goes.was c.take_alone.ensures.goes.other c.take_alone.ensures.goes.other_is c.take_alone.ensures.goes.cell c.take_alone.ensures.goes.here) (g.K.Keys.meaning c.args.keys.now) (g.met.K.Keys.rests_on_versions c.args.keys.now) (λ listed nodes stands. alone c.args.self.now.head (says (g.K.Keys.meaning c.args.keys.now) (reading (work g.C.Cells c.args.cells.now))) (reading (work g.C.Cells c.args.cells.now)) c.root-root.result c.root-root.ensures c.args.version c.down_by_key-spot.result c.down_by_key-spot.ensures c.requires.has.listed c.requires.has.nodes c.requires.has.lists c.requires.has.within c.find-found.result c.find-found.ensures listed nodes stands none last parent)).removes
 
-pub returns-else-or-clause-own : goal.returns-else-or-clause-own
-returns-else-or-clause-own g c =
+pub returns-else-eq-clause-own : goal.returns-else-eq-clause-own
+returns-else-eq-clause-own g c =
     let none : c.find-found.result.before.number ≡ 0 = search rules in
     let last : c.find-found.result.next.number ≡ 0 = search rules in
     let parent : c.down_by_key-spot.result.parent.number ≢ 0 = search rules in
     (gone_alone c.args.self.now.class c.args.self.now.head c.down_by_key-spot.result c.find-found.result c.args.version (work g.C.Cells c.args.cells.now) _ c.take_alone.ensures.goes (at_kind c.args.self.now.head (says (g.K.Keys.meaning c.args.keys.now) (reading (work g.C.Cells c.args.cells.now))) (reading (work g.C.Cells c.args.cells.now)) c.root-root.result c.root-root.ensures c.args.version c.down_by_key-spot.result c.down_by_key-spot.ensures c.requires.has.listed c.requires.has.nodes c.requires.has.lists c.requires.has.within c.find-found.result c.find-found.ensures c.requires.has.listed c.requires.has.nodes c.requires.has.lists) (other_kind c.args.self.now.head (says (g.K.Keys.meaning c.args.keys.now) (reading (work g.C.Cells c.args.cells.now))) (reading (work g.C.Cells c.args.cells.now)) c.root-root.result c.root-root.ensures c.args.version c.down_by_key-spot.result c.down_by_key-spot.ensures c.requires.has.listed c.requires.has.nodes c.requires.has.lists c.requires.has.within c.find-found.result c.find-found.ensures c.requires.has.listed c.requires.has.nodes c.requires.has.lists none last parent c.take_alone.ensures.goes.was c.take_alone.ensures.goes.other c.take_alone.ensures.goes.other_is c.take_alone.ensures.goes.cell c.take_alone.ensures.goes.here) (g.K.Keys.meaning c.args.keys.now) (g.met.K.Keys.rests_on_versions c.args.keys.now) (λ listed nodes stands. alone c.args.self.now.head (says (g.K.Keys.meaning c.args.keys.now) (reading (work g.C.Cells c.args.cells.now))) (reading (work g.C.Cells c.args.cells.now)) c.root-root.result c.root-root.ensures c.args.version c.down_by_key-spot.result c.down_by_key-spot.ensures c.requires.has.listed c.requires.has.nodes c.requires.has.lists c.requires.has.within c.find-found.result c.find-found.ensures listed nodes stands none last parent)).own
 
-pub returns-else-or-clause-versions : goal.returns-else-or-clause-versions
-returns-else-or-clause-versions g c =
+pub returns-else-eq-clause-versions : goal.returns-else-eq-clause-versions
+returns-else-eq-clause-versions g c =
     let none : c.find-found.result.before.number ≡ 0 = search rules in
     let last : c.find-found.result.next.number ≡ 0 = search rules in
     let parent : c.down_by_key-spot.result.parent.number ≢ 0 = search rules in
     (gone_alone c.args.self.now.class c.args.self.now.head c.down_by_key-spot.result c.find-found.result c.args.version (work g.C.Cells c.args.cells.now) _ c.take_alone.ensures.goes (at_kind c.args.self.now.head (says (g.K.Keys.meaning c.args.keys.now) (reading (work g.C.Cells c.args.cells.now))) (reading (work g.C.Cells c.args.cells.now)) c.root-root.result c.root-root.ensures c.args.version c.down_by_key-spot.result c.down_by_key-spot.ensures c.requires.has.listed c.requires.has.nodes c.requires.has.lists c.requires.has.within c.find-found.result c.find-found.ensures c.requires.has.listed c.requires.has.nodes c.requires.has.lists) (other_kind c.args.self.now.head (says (g.K.Keys.meaning c.args.keys.now) (reading (work g.C.Cells c.args.cells.now))) (reading (work g.C.Cells c.args.cells.now)) c.root-root.result c.root-root.ensures c.args.version c.down_by_key-spot.result c.down_by_key-spot.ensures c.requires.has.listed c.requires.has.nodes c.requires.has.lists c.requires.has.within c.find-found.result c.find-found.ensures c.requires.has.listed c.requires.has.nodes c.requires.has.lists none last parent c.take_alone.ensures.goes.was c.take_alone.ensures.goes.other c.take_alone.ensures.goes.other_is c.take_alone.ensures.goes.cell c.take_alone.ensures.goes.here) (g.K.Keys.meaning c.args.keys.now) (g.met.K.Keys.rests_on_versions c.args.keys.now) (λ listed nodes stands. alone c.args.self.now.head (says (g.K.Keys.meaning c.args.keys.now) (reading (work g.C.Cells c.args.cells.now))) (reading (work g.C.Cells c.args.cells.now)) c.root-root.result c.root-root.ensures c.args.version c.down_by_key-spot.result c.down_by_key-spot.ensures c.requires.has.listed c.requires.has.nodes c.requires.has.lists c.requires.has.within c.find-found.result c.find-found.ensures listed nodes stands none last parent)).versions
 
-pub returns-else-or-clause-takes_none : goal.returns-else-or-clause-takes_none
-returns-else-or-clause-takes_none g c =
+pub returns-else-eq-clause-takes_none : goal.returns-else-eq-clause-takes_none
+returns-else-eq-clause-takes_none g c =
     let none : c.find-found.result.before.number ≡ 0 = search rules in
     let last : c.find-found.result.next.number ≡ 0 = search rules in
     let parent : c.down_by_key-spot.result.parent.number ≢ 0 = search rules in
     (gone_alone c.args.self.now.class c.args.self.now.head c.down_by_key-spot.result c.find-found.result c.args.version (work g.C.Cells c.args.cells.now) _ c.take_alone.ensures.goes (at_kind c.args.self.now.head (says (g.K.Keys.meaning c.args.keys.now) (reading (work g.C.Cells c.args.cells.now))) (reading (work g.C.Cells c.args.cells.now)) c.root-root.result c.root-root.ensures c.args.version c.down_by_key-spot.result c.down_by_key-spot.ensures c.requires.has.listed c.requires.has.nodes c.requires.has.lists c.requires.has.within c.find-found.result c.find-found.ensures c.requires.has.listed c.requires.has.nodes c.requires.has.lists) (other_kind c.args.self.now.head (says (g.K.Keys.meaning c.args.keys.now) (reading (work g.C.Cells c.args.cells.now))) (reading (work g.C.Cells c.args.cells.now)) c.root-root.result c.root-root.ensures c.args.version c.down_by_key-spot.result c.down_by_key-spot.ensures c.requires.has.listed c.requires.has.nodes c.requires.has.lists c.requires.has.within c.find-found.result c.find-found.ensures c.requires.has.listed c.requires.has.nodes c.requires.has.lists none last parent c.take_alone.ensures.goes.was c.take_alone.ensures.goes.other c.take_alone.ensures.goes.other_is c.take_alone.ensures.goes.cell c.take_alone.ensures.goes.here) (g.K.Keys.meaning c.args.keys.now) (g.met.K.Keys.rests_on_versions c.args.keys.now) (λ listed nodes stands. alone c.args.self.now.head (says (g.K.Keys.meaning c.args.keys.now) (reading (work g.C.Cells c.args.cells.now))) (reading (work g.C.Cells c.args.cells.now)) c.root-root.result c.root-root.ensures c.args.version c.down_by_key-spot.result c.down_by_key-spot.ensures c.requires.has.listed c.requires.has.nodes c.requires.has.lists c.requires.has.within c.find-found.result c.find-found.ensures listed nodes stands none last parent)).takes_none
 
-pub returns-else-or-clause-places : goal.returns-else-or-clause-places
-returns-else-or-clause-places g c =
+pub returns-else-eq-clause-places : goal.returns-else-eq-clause-places
+returns-else-eq-clause-places g c =
     let none : c.find-found.result.before.number ≡ 0 = search rules in
     let last : c.find-found.result.next.number ≡ 0 = search rules in
     let parent : c.down_by_key-spot.result.parent.number ≢ 0 = search rules in
     (gone_alone c.args.self.now.class c.args.self.now.head c.down_by_key-spot.result c.find-found.result c.args.version (work g.C.Cells c.args.cells.now) _ c.take_alone.ensures.goes (at_kind c.args.self.now.head (says (g.K.Keys.meaning c.args.keys.now) (reading (work g.C.Cells c.args.cells.now))) (reading (work g.C.Cells c.args.cells.now)) c.root-root.result c.root-root.ensures c.args.version c.down_by_key-spot.result c.down_by_key-spot.ensures c.requires.has.listed c.requires.has.nodes c.requires.has.lists c.requires.has.within c.find-found.result c.find-found.ensures c.requires.has.listed c.requires.has.nodes c.requires.has.lists) (other_kind c.args.self.now.head (says (g.K.Keys.meaning c.args.keys.now) (reading (work g.C.Cells c.args.cells.now))) (reading (work g.C.Cells c.args.cells.now)) c.root-root.result c.root-root.ensures c.args.version c.down_by_key-spot.result c.down_by_key-spot.ensures c.requires.has.listed c.requires.has.nodes c.requires.has.lists c.requires.has.within c.find-found.result c.find-found.ensures c.requires.has.listed c.requires.has.nodes c.requires.has.lists none last parent c.take_alone.ensures.goes.was c.take_alone.ensures.goes.other c.take_alone.ensures.goes.other_is c.take_alone.ensures.goes.cell c.take_alone.ensures.goes.here) (g.K.Keys.meaning c.args.keys.now) (g.met.K.Keys.rests_on_versions c.args.keys.now) (λ listed nodes stands. alone c.args.self.now.head (says (g.K.Keys.meaning c.args.keys.now) (reading (work g.C.Cells c.args.cells.now))) (reading (work g.C.Cells c.args.cells.now)) c.root-root.result c.root-root.ensures c.args.version c.down_by_key-spot.result c.down_by_key-spot.ensures c.requires.has.listed c.requires.has.nodes c.requires.has.lists c.requires.has.within c.find-found.result c.find-found.ensures listed nodes stands none last parent)).places
 
-pub returns-else-or-clause-room : goal.returns-else-or-clause-room
-returns-else-or-clause-room g c =
+pub returns-else-eq-clause-room : goal.returns-else-eq-clause-room
+returns-else-eq-clause-room g c =
     let none : c.find-found.result.before.number ≡ 0 = search rules in
     let last : c.find-found.result.next.number ≡ 0 = search rules in
     let parent : c.down_by_key-spot.result.parent.number ≢ 0 = search rules in
