@@ -10,9 +10,9 @@ use Rattle.rdb_cells.specs.HeadFormat.{index_head_cell, empty_index_head}
 use Rattle.rdb_cells.specs.Images.{Image}
 use Rattle.rdb_cells.specs.Index.{LacksVersion}
 use Rattle.rdb_cells.specs.Keys.{Version, says, text_of}
-use Rattle.rdb_cells.specs.OneKey.{one_meaning}
+use Rattle.rdb_cells.specs.OneKey.{one_meaning, held_is}
 use Rattle.rdb_cells.specs.Words.{IsOfKind}
-use Rattle.rdb_cells.proofs.KeyLemmas.{held_version, own_key}
+use Rattle.rdb_cells.proofs.KeyLemmas.{held_version}
 use Rattle.rdb_patricia.specs.Bits.{key_text, IsTextKey}
 use Rattle.rdb_patricia.specs.PatriciaLaws.{patricia_starts_empty}
 use Rattle.rdb_patricia.specs.Shape.{patricia_nature}
@@ -40,5 +40,5 @@ lacks_it key image class head version cell empty held is_header text = record {
     itself = nothing_there version;
     otherwise = λ r within. absurd (nothing_there r within);
   };
-  taken = λ v is. subst IsTextKey (sym (own_key key (image version.number) v is)) text;
+  taken = λ v is. subst IsTextKey (sym (ap (λ (u : Version). u.key) (held_is key (image version.number) v is).3)) text;
 }

@@ -1,7 +1,7 @@
 -- The longest key with which a text begins: the one to which the text leads, or the last that ends beside the way to it.
 use Rattle.std.proofs.Common.{◌≡◌, ◌≢◌, ◌<◌, ◌≤◌, ◌+◌, ◌*◌, ◌/◌, ◌%◌, ◌&&◌, ◌||◌, ◌==◌, ◌⊎◌, ◌++◌, ℕ, zero, suc, List, [], ◌∷◌, length, take, slice_get, eqb, nat_le, not, cond, Option, Some, None, Bool, true, false, inl, inr, refl, sym, ap, ap₂, subst, ◌∙◌, arith, rules, eq-eqb}
 use Rattle.std.proofs.Permutation.{which}
-use Rattle.std.proofs.lemmas.Bool.{false≢true, cases_lt, le-leb, leb-true, ne_eqb}
+use Rattle.std.proofs.lemmas.Bool.{false≢true, cases_lt, le-leb, leb-true, eqb-true}
 use Rattle.std.proofs.lemmas.List.{append-nil}
 use Rattle.std.proofs.lemmas.List.Elements.{filter-append}
 use Rattle.std.specs.Cmp.Lexicographic.{same_text}
@@ -282,15 +282,11 @@ module _ (key : Texts) (text : List ℕ) (text_bytes : AreBytes text) (trie : Tr
       other_head : (r : CellRef) → Contains (versions t.other) r → (begins_with text (key r) ≡ true) × (9 * length (key r) ≡ t.bit)
       other_head r within =
           let one : t.is_one ≡ true = both_left t.is_one (t.bit % 9 == 0) ends in
-          let whole : t.bit % 9 ≡ 0 = zero_when (t.bit % 9) (both_right t.is_one (t.bit % 9 == 0) ends) in
+          let whole : t.bit % 9 ≡ 0 = eqb-true (t.bit % 9) 0 (both_right t.is_one (t.bit % 9 == 0) ends) in
           let goes : bit_at text t.bit ≡ true = sym parts.1 ∙ one in
           let first = parts.0 r within in
           ended_head (key r) text t.bit (bytes r (other_in r within)) text_bytes first whole
           (true_or_false (bit_at (key r) t.bit) (λ some. first.differ (some ∙ sym goes))) goes
-        where
-          zero_when : (n : ℕ) → (n == 0) ≡ true → n ≡ 0
-          zero_when zero is_zero = refl
-          zero_when (suc n) is_zero = absurd (false≢true is_zero)
 
       above_shorter : (r : CellRef) → Beside ts r → begins_with text (key r) ≡ true → 9 * length (key r) < t.bit
       above_shorter r beside begins =

@@ -14,7 +14,8 @@ pub data Held : Type 0 where
   Branch : ℕ → Held
   Entry : CellRef → Held
 
--- the entries of the versions of one key, the first and the others; or a branch in a cell, with its bit and the tries of the keys in which that is 0 and 1
+-- the entries of the versions of one key, the first and the others; or a branch in a cell, with its bit and the tries of the
+-- keys in which that is 0 and 1
 pub data Trie : Type 0 where
   Entries : Placed CellRef → List (Placed CellRef) → Trie
   Parted : ℕ → ℕ → Trie → Trie → Trie

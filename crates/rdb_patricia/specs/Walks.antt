@@ -152,8 +152,10 @@ pub record IsAt (chain : List (Placed CellRef)) (version : CellRef) (found : Fou
 
 -- the version is one of the entries of a key from this number on; and whatever entries it is one of, this holds
 abbrev pub HasEntry : Image → ℕ → CellRef → Type 0
-HasEntry image first version = (p : Placed CellRef) × (ps : List (Placed CellRef)) × IsPart image first (Some (Entries p ps)) × Contains (elements (p ∷ ps)) version
+HasEntry image first version = (p : Placed CellRef) × (ps : List (Placed CellRef)) × IsPart image first (Some (Entries p ps)) ×
+    Contains (elements (p ∷ ps)) version
 
 abbrev pub WhateverEntries : Image → ℕ → CellRef → (List (Placed CellRef) → Type 0) → Type 0
 WhateverEntries image first version Holds =
-    (p : Placed CellRef) (ps : List (Placed CellRef)) → IsPart image first (Some (Entries p ps)) → Contains (elements (p ∷ ps)) version → Holds (p ∷ ps)
+    (p : Placed CellRef) (ps : List (Placed CellRef)) → IsPart image first (Some (Entries p ps)) →
+    Contains (elements (p ∷ ps)) version → Holds (p ∷ ps)
