@@ -121,6 +121,7 @@ module _ (class : ℕ) (head : CellRef) (spot : Spot) (found : Found) (version :
     shaped_was =
         subst (λ (c : List (Placed CellRef)). IsShaped (text_at (says keys (reading w))) (plug sits.turns (entries_of sits.first c))) chain_is
         (subst (IsShapedTree (text_at (says keys (reading w)))) sits.is stands.shaped)
+
     rest : Rest (text_at (says keys (reading w))) sits.turns gone_entry back
     rest = rest_of (text_at (says keys (reading w))) sits.turns gone_entry back shaped_was (λ empty.
         no_turns (reading w) head.number stands.first sits.turns sits.first.number (entry_nodes (sits.first ∷ sits.others)) hung
@@ -128,6 +129,7 @@ module _ (class : ℕ) (head : CellRef) (spot : Spot) (found : Found) (version :
 
     tree_was : stands.tree ≡ Some (plug sits.turns (Entries gone_entry back))
     tree_was = sits.is ∙ ap (λ (c : List (Placed CellRef)). Some (plug sits.turns (entries_of sits.first c))) chain_is
+
     hangs_was : Hangs stands.tree sits.turns found.at.number (entry_nodes (gone_entry ∷ back))
     hangs_was = subst (λ (tree : Option Trie). Hangs tree sits.turns found.at.number (entry_nodes (gone_entry ∷ back))) (sym tree_was) (hangs_part sits.turns (Entries gone_entry back))
 

@@ -77,13 +77,13 @@ module _ (class : ℕ) (head : CellRef) (keys : Meaning) (rests : RestsOnVersion
         put_listed same after enters =
             is_entered class head near near.at version w after enters keys rests put_text
             (λ listed nodes stands.
-                let g = grown head.number said (reading w) root_ref leads listed nodes stands some in
-                listed_joins said (reading w) root_ref version g.trie g.part g.keyed near (reaches g.trie g.part) cell here other other_is head.number same stands.tree g.is)
+            let g = grown head.number said (reading w) root_ref leads listed nodes stands some in
+            listed_joins said (reading w) root_ref version g.trie g.part g.keyed near (reaches g.trie g.part) cell here other other_is head.number same stands.tree g.is)
 
         -- its key parts from the nearest one
         pub put_parted : (bit : ℕ) → IsFirstDifference bit (text_at (says keys (reading w)) version) (text_at (says keys (reading w)) other) → (spot : Spot) → WhateverTrie (reading w) root_ref.number (λ trie. IsReached (bit_at (text_at (says keys (reading w)) version)) bit trie spot) → (one : Bool) → one ≡ bit_at (text_at (says keys (reading w)) version) bit → (after : Work) → Parts head spot bit one version w after → IsPut (patricia_nature class head.number) keys w after version
         put_parted bit first spot turned one one_is after parts =
             is_parted class head spot bit one version w after parts keys rests put_text
             (λ listed nodes stands.
-                let g = grown head.number said (reading w) root_ref leads listed nodes stands some in
-                new_splits said (reading w) root_ref version g.trie g.part g.keyed near (reaches g.trie g.part) cell here other other_is bit first spot (turned g.trie g.part) one one_is stands.tree g.is)
+            let g = grown head.number said (reading w) root_ref leads listed nodes stands some in
+            new_splits said (reading w) root_ref version g.trie g.part g.keyed near (reaches g.trie g.part) cell here other other_is bit first spot (turned g.trie g.part) one one_is stands.tree g.is)

@@ -4,7 +4,6 @@ use Rattle.rdb_cells.specs.declared.formats.patricia.PatriciaBranch.{PatriciaBra
 use Rattle.rdb_cells.specs.PatriciaFormat.{branch_in}
 use Rattle.rdb_patricia.specs.Changes.{turned}
 use Rattle.rdb_patricia.proofs.ListingLemmas.{same_cell}
-
 use Rattle.rdb_patricia.proofs.lead.leading.Goals as goal
 
 pub returns-clause-leads : goal.returns-clause-leads
