@@ -1,0 +1,23 @@
+use Rattle.std.proofs.Common.{◌≡◌, ◌≤◌, ◌<◌, rules, arith}
+use Rattle.rdb_patricia.specs.Bits.{bit_at}
+use Rattle.rdb_patricia.proofs.ListingLemmas.{IsRead}
+use Rattle.rdb_patricia.proofs.WayLemmas.{passing_first, passing_there, passing_never, passed_entry, passed_branch, passing_more}
+use Rattle.rdb_patricia.proofs.walk.last_end.Goals as goal
+
+pub loop-init : goal.loop-init
+loop-init g c = passing_first (bit_at c.args.text.now) c.args.limit (g.C.Cells.image c.args.cells.now) c.args.root
+
+pub read-requires : goal.read-requires
+read-requires g c = passing_there (bit_at c.args.text.now) c.args.limit (g.C.Cells.image c.args.cells.now) c.requires.0 c.loop.counter c.loop.at c.loop.last (c.loop.invariant c.requires.0 c.requires.1)
+
+pub unreachable-requires : goal.unreachable-requires
+unreachable-requires g c =
+    let least = c.loop-test.false in
+    passing_never (bit_at c.args.text.now) c.args.limit (g.C.Cells.image c.args.cells.now) c.requires.0 c.loop.counter c.loop.at c.loop.last (c.loop.invariant c.requires.0 c.requires.1) c.args.root.number c.requires.1 (omega arith)
+
+pub loop-preserved : goal.loop-preserved
+loop-preserved g c = λ trie part.
+    let reads : IsRead c.read.result.now c.node_in.result = record { branch = c.node_in.ensures.branch; entry = c.node_in.ensures.entry } in
+    let low : c.in-Branch.branch.bit < c.args.limit = omega arith in
+    passing_more (bit_at c.args.text.now) c.args.limit (g.C.Cells.image c.args.cells.now) trie c.loop.counter c.loop.at c.loop.last (c.loop.invariant trie part) c.read.result.now c.read.ensures c.node_in.result reads
+    c.in-Branch.branch c.in-Branch.is low c.text_bit-one_side.result c.text_bit-one_side.ensures c.side-at.result c.side-at.ensures c.ended-last.result c.ended-last.ensures
