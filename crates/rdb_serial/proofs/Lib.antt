@@ -1,0 +1,6 @@
+pub mod ViewLemmas
+pub mod ClassLemmas
+pub mod ChangeLemmas
+pub mod ProgressLemmas
+pub mod CarryLemmas
+pub mod TurnLemmas
