@@ -4,3 +4,6 @@ pub mod ChangeLemmas
 pub mod ProgressLemmas
 pub mod CarryLemmas
 pub mod TurnLemmas
+pub mod StillLemmas
+pub mod StoryLemmas
+pub mod StoryMoves

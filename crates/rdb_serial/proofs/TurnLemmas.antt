@@ -25,9 +25,9 @@ made_of (Some p) = made_in (so_far p)
 abbrev pub MakesNoMore : Option Progress → Option Progress → Type 0
 MakesNoMore was now = (object : ℕ × ℕ) → was_made (made_of now) object ≡ true → was_made (made_of was) object ≡ true
 
-true_or_false : (b : Bool) → (b ≡ true → ⊥) → b ≡ false
-true_or_false true no = absurd (no refl)
-true_or_false false no = refl
+not_true : (b : Bool) → (b ≡ true → ⊥) → b ≡ false
+not_true true none = absurd (none refl)
+not_true false none = refl
 
 -- stories stay apart as one makes no more
 pub apart_turned : (before after : Course) (slot : ℕ) → ((other : ℕ) → other ≢ slot → after other ≡ before other) → MakesNoMore (before slot) (after slot) → StoriesAreApart before → StoriesAreApart after
@@ -52,7 +52,7 @@ apart_turned before after slot others no_more apart i j p q differs there_i ther
     both (Some a) (Some b) e f h g = let no = apart i j a b differs e f object h in (cc)
 
     go : (b : Bool) → nat_eq i slot ≡ b → (c : Bool) → nat_eq j slot ≡ c → was_made (made_in (so_far q)) object ≡ false
-    go b e c f = true_or_false (was_made (made_in (so_far q)) object) (λ h. both (before i) (before j) refl refl (was_by i p there_i made) (was_by j q there_j h))
+    go b e c f = not_true (was_made (made_in (so_far q)) object) (λ h. both (before i) (before j) refl refl (was_by i p there_i made) (was_by j q there_j h))
 
 -- a serial history turned
 pub turned : (schema : Schema) (manager : Manager) (before after : History) (s : Scene) (slot : ℕ) (was now : Option Progress) → Turns before after slot was now → scene_of after ≡ s → IsSerial schema manager before → IsScene schema s →
@@ -136,7 +136,7 @@ planned_turned before after slot was now class turns keeps floors many same same
 
 -- what is a floor stays one as a transaction begins now or is one that was open
 pub floor_turned : (before after : History) (slot : ℕ) (was now : Option Progress) → Turns before after slot was now → commits before.journal ≤ commits after.journal →
-    ((q : Progress) (t : Transaction) → now ≡ Some q → q.transaction ≡ Some t → (commits before.journal ≤ t.snapshot) ⊎ ((p : Progress) × ((u : Transaction) × (was ≡ Some p) × (p.transaction ≡ Some u) × (u.snapshot ≡ t.snapshot)))) →
+    ((q : Progress) (t : Transaction) → now ≡ Some q → q.transaction ≡ Some t → (commits before.journal ≤ t.snapshot) ⊎ ((p : Progress) × (u : Transaction) × (was ≡ Some p) × (p.transaction ≡ Some u) × (u.snapshot ≡ t.snapshot))) →
     (floor : ℕ) → IsFloor before.journal before.course floor → IsFloor after.journal after.course floor
 floor_turned before after slot was now turns more snapshots floor is = record {
   there = let h = is.there in omega (arith, h, more);
@@ -151,6 +151,6 @@ floor_turned before after slot was now turns more snapshots floor is = record {
         let same : slot ≡ other = grind (arith, nat_tests) in
         at (snapshots p t (sym turns.is_there ∙ ap after.course same ∙ there) open_one)
       where
-        at : (commits before.journal ≤ t.snapshot) ⊎ ((q : Progress) × ((u : Transaction) × (was ≡ Some q) × (q.transaction ≡ Some u) × (u.snapshot ≡ t.snapshot))) → floor ≤ t.snapshot
+        at : (commits before.journal ≤ t.snapshot) ⊎ ((q : Progress) × (u : Transaction) × (was ≡ Some q) × (q.transaction ≡ Some u) × (u.snapshot ≡ t.snapshot)) → floor ≤ t.snapshot
         at (inl le) = let h = is.there in omega (arith, h, le)
         at (inr had) = let h = is.least slot had.0 had.1 (turns.was_there ∙ had.2) had.3 in let g = had.4 in omega (arith, h, g)
