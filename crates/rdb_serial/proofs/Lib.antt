@@ -7,3 +7,6 @@ pub mod TurnLemmas
 pub mod StillLemmas
 pub mod StoryLemmas
 pub mod StoryMoves
+pub mod EntryLemmas
+pub mod EndingMoves
+pub mod AimLemmas

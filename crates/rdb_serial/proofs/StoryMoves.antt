@@ -45,7 +45,7 @@ use Rattle.rdb_serial.proofs.StoryLemmas.{noted_so_far, unplanned_so_far, unwrit
 same_commits : (before after : History) → after.journal ≡ before.journal → commits before.journal ≤ commits after.journal
 same_commits before after journal = let same : commits after.journal ≡ commits before.journal = ap commits journal in omega (arith, same)
 
-as_many : (schema : Schema) (s : Scene) → IsScene schema s → length s.aimed ≡ length s.settled
+pub as_many : (schema : Schema) (s : Scene) → IsScene schema s → length s.aimed ≡ length s.settled
 as_many schema s is = is.classes_aimed ∙ sym is.classes
 
 pub comes : (schema : Schema) (manager : Manager) (before after : History) (slot : ℕ) (now : Progress) → IsSerial schema manager before → Comes before after slot now → IsSerial schema manager after
