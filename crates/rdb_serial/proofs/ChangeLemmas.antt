@@ -1,11 +1,11 @@
 -- What one change of a class's versions, which a transaction's connection makes, leaves of what others see there.
-use Rattle.std.proofs.Common.{◌≡◌, ◌≢◌, ◌⊎◌, inl, inr, ℕ, ◌<◌, ◌≤◌, List, ◌∷◌, ◌++◌, length, Option, Some, None, refl, sym, ap, subst, ◌∙◌, arith}
+use Rattle.std.proofs.Common.{◌≡◌, ◌≢◌, ◌⊎◌, inl, inr, ℕ, ◌<◌, ◌≤◌, List, ◌∷◌, ◌++◌, length, Option, Some, None, refl, sym, ap, subst, ◌∙◌, arith, [], length-set, get_or-set_other}
 use Rattle.rdb_base.specs.declared.identity.TxId.{TxId}
 use Rattle.rdb_base.specs.declared.operation.Op.{Op}
 use Rattle.rdb_base.specs.declared.operation.Reply.{Reply}
 use Rattle.rdb_base.specs.declared.journal.Entry.{Entry}
 use Rattle.rdb_sight.specs.Sight.{is_own}
-use Rattle.rdb_sight.specs.Versions.{Version, Versions, Marks, objects_in, chain_in, own_version, rows_shown, row_shown, shown}
+use Rattle.rdb_sight.specs.Versions.{Version, Versions, Marks, objects_in, chain_in, with_chain, own_version, rows_shown, row_shown, shown}
 use Rattle.rdb_model.specs.Database.{Row}
 use Rattle.rdb_shown.specs.Kept.{IsChain, AreVersions, IsUnseenBy, IsWork}
 use Rattle.rdb_shown.specs.Changes.{HasChain, PutsFirst, PutsAgain, Puts, DropsOwn, DropsGarbage, Stamps}
@@ -19,6 +19,23 @@ use Rattle.rdb_serial.proofs.ViewLemmas.{class_here, class_elsewhere, moved_chai
 use Rattle.rdb_serial.proofs.ClassLemmas.{class_shown, KeptIn, kept_in, WorkIn, work_in}
 
 module _ (journal : List Entry) (course : Course) (marks : Marks) (tx : TxId) (before after : Versions) (class : ℕ) (kept : AreVersions journal marks before) (unmarked : marks tx ≡ None) where
+  -- a garbage version that is dropped is seen by nobody, its own transaction's reader too
+  pub old_unseen : (one : DropsOld journal course before after class) (snapshot : ℕ) (reader : Option TxId) → one.floor ≤ snapshot → shown marks snapshot reader after ≡ shown marks snapshot reader before
+  old_unseen one snapshot reader above =
+      same_shown marks snapshot reader before after class one.id (one.drops.newer ++ one.drops.older) (in_order journal marks before kept) one.drops.taken
+      (garbage_unseen journal marks (class, one.id) snapshot reader (Some one.floor) one.drops.newer one.drops.dropped one.drops.older
+      (subst (IsChain journal marks (class, one.id)) one.drops.was (kept.chains class one.id)) above one.drops.garbage
+      ∙ ap (row_shown marks snapshot reader) (sym one.drops.was))
+
+  pub old_is_no_work : (one : DropsOld journal course before after class) (other : TxId) (snapshot : ℕ) (done : List (Op × Reply)) → IsWork marks before other snapshot done → IsWork marks after other snapshot done
+  old_is_no_work one other snapshot done work =
+      same_work_after marks before after class one.id (one.drops.newer ++ one.drops.older) other snapshot done (in_order journal marks before kept) one.drops.taken
+      (sym (find_without (λ v. is_own (Some other) v.stamp) one.drops.newer one.drops.dropped one.drops.older (garbage_not_own other (Some one.floor) one.drops.newer one.drops.dropped one.drops.older one.drops.garbage))
+      ∙ ap (own_version other) (sym one.drops.was))
+      (pairs_kept (IsUnseenBy other snapshot marks) one.drops.dropped (chain_in before class one.id) (one.drops.newer ++ one.drops.older)
+      (record { newer = one.drops.newer; older = one.drops.older; before = one.drops.was; after = refl }))
+      work
+
   -- everybody else is shown what they were
   pub change_shown : (snapshot : ℕ) (reader : Option TxId) → reader ≢ Some tx → ((floor : ℕ) → IsFloor journal course floor → floor ≤ snapshot) → IsOneChange journal course tx before after class →
       shown marks snapshot reader after ≡ shown marks snapshot reader before
@@ -29,11 +46,7 @@ module _ (journal : List Entry) (course : Course) (marks : Marks) (tx : TxId) (b
   change_shown snapshot reader differs above (inr (inl one)) =
       same_shown marks snapshot reader before after class one.id one.drops.rest (in_order journal marks before kept) one.drops.taken
       (rest_shown marks snapshot reader tx (chain_in before class one.id) one.drops.rest unmarked differs (inr (one.drops.dropped, one.drops.was_own, one.drops.without)))
-  change_shown snapshot reader differs above (inr (inr one)) =
-      same_shown marks snapshot reader before after class one.id (one.drops.newer ++ one.drops.older) (in_order journal marks before kept) one.drops.taken
-      (garbage_unseen journal marks (class, one.id) snapshot reader (Some one.floor) one.drops.newer one.drops.dropped one.drops.older
-      (subst (IsChain journal marks (class, one.id)) one.drops.was (kept.chains class one.id)) (above one.floor one.least) one.drops.garbage
-      ∙ ap (row_shown marks snapshot reader) (sym one.drops.was))
+  change_shown snapshot reader differs above (inr (inr one)) = old_unseen one snapshot reader (above one.floor one.least)
 
   -- the versions are kept
   pub change_kept : IsOneChange journal course tx before after class → AreVersions journal marks after
@@ -64,16 +77,7 @@ module _ (journal : List Entry) (course : Course) (marks : Marks) (tx : TxId) (b
       (rest_others tx other (chain_in before class one.id) one.drops.rest differs (inr (one.drops.dropped, one.drops.was_own, one.drops.without)))
       (rest_pairs (IsUnseenBy other snapshot marks) tx (chain_in before class one.id) one.drops.rest (inr (one.drops.dropped, one.drops.was_own, one.drops.without)))
       work
-  change_work other snapshot done differs (inr (inr one)) work = garbage_work other snapshot done one work
-    where
-      garbage_work : (other : TxId) (snapshot : ℕ) (done : List (Op × Reply)) → DropsOld journal course before after class → IsWork marks before other snapshot done → IsWork marks after other snapshot done
-      garbage_work other snapshot done one work =
-          same_work_after marks before after class one.id (one.drops.newer ++ one.drops.older) other snapshot done (in_order journal marks before kept) one.drops.taken
-          (sym (find_without (λ v. is_own (Some other) v.stamp) one.drops.newer one.drops.dropped one.drops.older (garbage_not_own other (Some one.floor) one.drops.newer one.drops.dropped one.drops.older one.drops.garbage))
-          ∙ ap (own_version other) (sym one.drops.was))
-          (pairs_kept (IsUnseenBy other snapshot marks) one.drops.dropped (chain_in before class one.id) (one.drops.newer ++ one.drops.older)
-          (record { newer = one.drops.newer; older = one.drops.older; before = one.drops.was; after = refl }))
-          work
+  change_work other snapshot done differs (inr (inr one)) work = old_is_no_work one other snapshot done work
 
 -- the class that a change is of is there
 pub change_there : (journal : List Entry) (course : Course) (tx : TxId) (before after : Versions) (class : ℕ) → IsOneChange journal course tx before after class → class < length before
@@ -84,6 +88,30 @@ change_there journal course tx before after class (inl one) = put_there one.puts
     put_there (inr puts) = puts.put.class_there
 change_there journal course tx before after class (inr (inl one)) = one.drops.taken.class_there
 change_there journal course tx before after class (inr (inr one)) = one.drops.taken.class_there
+
+-- the chain that a change leaves, of one object of the class
+changes_chain : (journal : List Entry) (course : Course) (tx : TxId) (before after : Versions) (class : ℕ) → IsOneChange journal course tx before after class → (id : ℕ) × (chain : List Version) × HasChain before after class id chain
+changes_chain journal course tx before after class (inl one) = go one.puts
+  where
+    go : Puts before after tx class one.id one.row → (id : ℕ) × (chain : List Version) × HasChain before after class id chain
+    go (inl puts) = (one.id, puts.version ∷ chain_in before class one.id, puts.put)
+    go (inr puts) = (one.id, puts.version ∷ puts.rest, puts.put)
+changes_chain journal course tx before after class (inr (inl one)) = (one.id, one.drops.rest, one.drops.taken)
+changes_chain journal course tx before after class (inr (inr one)) = (one.id, one.drops.newer ++ one.drops.older, one.drops.taken)
+
+-- no class is lost, and all other classes stay
+pub change_long : (journal : List Entry) (course : Course) (tx : TxId) (before after : Versions) (class : ℕ) → IsOneChange journal course tx before after class → length after ≡ length before
+change_long journal course tx before after class change =
+    let has = changes_chain journal course tx before after class change in
+    ap (λ (vs : Versions). length vs) has.2.is ∙ length-set before class (with_chain (objects_in before class) has.0 has.1)
+
+pub chain_elsewhere_same : (before after : Versions) (class id : ℕ) (chain : List Version) → HasChain before after class id chain → (other : ℕ) → other ≢ class → AreSameIn other after before
+chain_elsewhere_same before after class id chain has other differs =
+    ap (λ (vs : Versions). objects_in vs other) has.is ∙ get_or-set_other before class other (with_chain (objects_in before class) id chain) [] differs
+
+pub change_elsewhere : (journal : List Entry) (course : Course) (tx : TxId) (before after : Versions) (class : ℕ) → IsOneChange journal course tx before after class → (other : ℕ) → other ≢ class → AreSameIn other after before
+change_elsewhere journal course tx before after class change =
+    let has = changes_chain journal course tx before after class change in chain_elsewhere_same before after class has.0 has.1 has.2
 
 -- the same change in other lists with the same objects in the class
 module _ (before after was now : Versions) (class : ℕ) (there : class < length was) (many : length now ≡ length was) (here_was : objects_in was class ≡ objects_in before class)

@@ -10,3 +10,5 @@ pub mod StoryMoves
 pub mod EntryLemmas
 pub mod EndingMoves
 pub mod AimLemmas
+pub mod PlanMoves
+pub mod GivingMoves

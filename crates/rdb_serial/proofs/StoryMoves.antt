@@ -42,7 +42,7 @@ use Rattle.rdb_serial.proofs.StillLemmas.{floors_stay, plan_stays, KeepsSnapshot
 use Rattle.rdb_serial.proofs.StoryLemmas.{noted_so_far, unplanned_so_far, unwritten, run_more, run_front, unmade, made_same, anew_same, read_is_no_work, fits_more, live_has_no_cause, never}
 
 -- the commits and the floors of a journal that stays
-same_commits : (before after : History) → after.journal ≡ before.journal → commits before.journal ≤ commits after.journal
+pub same_commits : (before after : History) → after.journal ≡ before.journal → commits before.journal ≤ commits after.journal
 same_commits before after journal = let same : commits after.journal ≡ commits before.journal = ap commits journal in omega (arith, same)
 
 pub as_many : (schema : Schema) (s : Scene) → IsScene schema s → length s.aimed ≡ length s.settled

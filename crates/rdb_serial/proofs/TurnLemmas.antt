@@ -54,6 +54,61 @@ apart_turned before after slot others no_more apart i j p q differs there_i ther
     go : (b : Bool) → nat_eq i slot ≡ b → (c : Bool) → nat_eq j slot ≡ c → was_made (made_in (so_far q)) object ≡ false
     go b e c f = not_true (was_made (made_in (so_far q)) object) (λ h. both (before i) (before j) refl refl (was_by i p there_i made) (was_by j q there_j h))
 
+-- stories stay apart as one makes what it made, or what no other makes
+pub apart_fresh : (before after : Course) (slot : ℕ) → ((other : ℕ) → other ≢ slot → after other ≡ before other) →
+    ((object : ℕ × ℕ) → was_made (made_of (after slot)) object ≡ true → (was_made (made_of (before slot)) object ≡ true) ⊎ ((other : ℕ) → other ≢ slot → was_made (made_of (before other)) object ≡ false)) →
+    StoriesAreApart before → StoriesAreApart after
+apart_fresh before after slot others fresh apart i j p q differs there_i there_j object made = not_true (was_made (made_in (so_far q)) object) (λ also. go (nat_eq i slot) refl (nat_eq j slot) refl also)
+  where
+    after_i : was_made (made_of (after i)) object ≡ true
+    after_i = ap (λ (o : Option Progress). was_made (made_of o) object) there_i ∙ made
+
+    both : (o u : Option Progress) → before i ≡ o → before j ≡ u → was_made (made_of o) object ≡ true → was_made (made_of u) object ≡ true → ⊥
+    both None u e f h g = (cc)
+    both (Some a) None e f h g = (cc)
+    both (Some a) (Some b) e f h g = let none = apart i j a b differs e f object h in (cc)
+
+    both_before : was_made (made_of (before i)) object ≡ true → was_made (made_of (before j)) object ≡ true → ⊥
+    both_before h g = both (before i) (before j) refl refl h g
+
+    go : (b : Bool) → nat_eq i slot ≡ b → (c : Bool) → nat_eq j slot ≡ c → was_made (made_in (so_far q)) object ≡ true → ⊥
+    go true e true f also = let same : i ≡ j = grind (arith, nat_tests) in differs same
+    go false e false f also =
+        let one : i ≢ slot = grind (arith, nat_tests) in
+        let two : j ≢ slot = grind (arith, nat_tests) in
+        both_before (ap (λ (o : Option Progress). was_made (made_of o) object) (sym (others i one)) ∙ after_i)
+        (ap (λ (o : Option Progress). was_made (made_of o) object) (sym (others j two) ∙ there_j) ∙ also)
+    go true e false f also =
+        let here : slot ≡ i = grind (arith, nat_tests) in
+        let two : j ≢ slot = grind (arith, nat_tests) in
+        let old_j : was_made (made_of (before j)) object ≡ true = ap (λ (o : Option Progress). was_made (made_of o) object) (sym (others j two) ∙ there_j) ∙ also in
+        at (fresh object (ap (λ (k : ℕ). was_made (made_of (after k)) object) here ∙ after_i))
+      where
+        at : (was_made (made_of (before slot)) object ≡ true) ⊎ ((other : ℕ) → other ≢ slot → was_made (made_of (before other)) object ≡ false) → ⊥
+        at (inl old) =
+            let here : i ≡ slot = grind (arith, nat_tests) in
+            let two : j ≢ slot = grind (arith, nat_tests) in
+            both_before (ap (λ (k : ℕ). was_made (made_of (before k)) object) here ∙ old) (ap (λ (o : Option Progress). was_made (made_of o) object) (sym (others j two) ∙ there_j) ∙ also)
+        at (inr new) =
+            let two : j ≢ slot = grind (arith, nat_tests) in
+            let none = new j two in
+            let old_j : was_made (made_of (before j)) object ≡ true = ap (λ (o : Option Progress). was_made (made_of o) object) (sym (others j two) ∙ there_j) ∙ also in
+            (cc)
+    go false e true f also =
+        let here : slot ≡ j = grind (arith, nat_tests) in
+        at (fresh object (ap (λ (k : ℕ). was_made (made_of (after k)) object) here ∙ ap (λ (o : Option Progress). was_made (made_of o) object) there_j ∙ also))
+      where
+        at : (was_made (made_of (before slot)) object ≡ true) ⊎ ((other : ℕ) → other ≢ slot → was_made (made_of (before other)) object ≡ false) → ⊥
+        at (inl old) =
+            let here : j ≡ slot = grind (arith, nat_tests) in
+            let one : i ≢ slot = grind (arith, nat_tests) in
+            both_before (ap (λ (o : Option Progress). was_made (made_of o) object) (sym (others i one)) ∙ after_i) (ap (λ (k : ℕ). was_made (made_of (before k)) object) here ∙ old)
+        at (inr new) =
+            let one : i ≢ slot = grind (arith, nat_tests) in
+            let none = new i one in
+            let old_i : was_made (made_of (before i)) object ≡ true = ap (λ (o : Option Progress). was_made (made_of o) object) (sym (others i one)) ∙ after_i in
+            (cc)
+
 -- a serial history turned
 pub turned : (schema : Schema) (manager : Manager) (before after : History) (s : Scene) (slot : ℕ) (was now : Option Progress) → Turns before after slot was now → scene_of after ≡ s → IsSerial schema manager before → IsScene schema s →
     ((other : ℕ) (p : Progress) → other ≢ slot → before.course other ≡ Some p → IsConnection schema manager (scene_of before) other p → IsConnection schema manager s other p) →

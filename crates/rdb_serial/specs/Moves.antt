@@ -288,18 +288,13 @@ pub record EndsRolledBack (before after : History) (slot : ℕ) : Type 0 where
 abbrev pub IsAlone : Course → ℕ → Type 0
 IsAlone course slot = (other : ℕ) (p : Progress) (t : Transaction) → other ≢ slot → course other ≡ Some p → p.transaction ≡ Some t → ⊥
 
--- What a mark asks where many may write: no commit above its snapshot touches the story, and the connection holds no latch. All versions
--- stay. Under a single writer nobody else has an open transaction, and what the writer aims at is settled.
-pub record MarkedAmongMany (schema : Schema) (before after : History) (p : Progress) (t : Transaction) : Type 0 where
+-- What a mark asks where many may write: no commit above its snapshot touches the story, and the connection holds no latch. Under a single
+-- writer nobody else has an open transaction.
+pub record MayMarkAmongMany (schema : Schema) (before : History) (p : Progress) (t : Transaction) : Type 0 where
   pub untouched : IsUntouched schema before.journal (story_with p t p.done)
   pub latches : p.latches ≡ 0
-  pub settled : after.settled ≡ before.settled
 
-pub record MarkedAlone (before after : History) (slot : ℕ) (p : Progress) : Type 0 where
-  pub alone : IsAlone before.course slot
-  pub settled : TakesOver p.latches before.settled before.aimed after.settled
-
--- A transaction is marked as the next commit, and its story stands in the journal.
+-- A transaction is marked as the next commit, and its story stands in the journal; what it aims at in its classes is settled.
 pub record Marks (schema : Schema) (manager : Manager) (before after : History) (slot : ℕ) : Type 0 where
   pub was : Progress
   pub transaction : Transaction
@@ -312,8 +307,9 @@ pub record Marks (schema : Schema) (manager : Manager) (before after : History) 
   pub entered : after.journal ≡ before.journal ++ entry.Commit (story_with was transaction was.done) (commits before.journal + 1) ∷ []
   pub drawn : after.drawn ≡ before.drawn
   pub aimed : after.aimed ≡ before.aimed
-  pub many : manager ≡ managers.Mvcc → MarkedAmongMany schema before after was transaction
-  pub single : manager ≡ managers.Mursiw → MarkedAlone before after slot was
+  pub settled : TakesOver was.latches before.settled before.aimed after.settled
+  pub many : manager ≡ managers.Mvcc → MayMarkAmongMany schema before was transaction
+  pub single : manager ≡ managers.Mursiw → IsAlone before.course slot
 
 -- A version of a marked transaction is stamped, among the settled ones and among those aimed at.
 pub record StampsVersion (manager : Manager) (before after : History) (slot class id : ℕ) : Type 0 where
