@@ -87,7 +87,7 @@ module _ (schema : Schema) (manager : Manager) (s : Scene) (e : Entry) (other_ki
         let all = sees single writes in (
           all.0 ∙ sym commits_same,
           ap (λ (n : ℕ). shown s.marks n None (view_in s p)) commits_same ∙ all.1
-          ∙ sym (ap (λ (n : ℕ). fold schema (s.journal ++ e ∷ []) n) commits_same ∙ fold_grown s.journal (e ∷ []) schema (commits s.journal) (omega arith)),
+              ∙ sym (ap (λ (n : ℕ). fold schema (s.journal ++ e ∷ []) n) commits_same ∙ fold_grown s.journal (e ∷ []) schema (commits s.journal) (omega arith)),
         );
     anew = λ anew. subst (λ (made : List (ℕ × ℕ)). MakesAnew made (so_far p)) (sym (made_as_before s.journal e other_kind)) anew;
     drawn = λ class. omega arith;

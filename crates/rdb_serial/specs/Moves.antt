@@ -6,26 +6,21 @@ use Rattle.rdb_base.specs.declared.identity.Kind.TheVariants as kind
 use Rattle.rdb_base.specs.declared.identity.Manager.{Manager}
 use Rattle.rdb_base.specs.declared.identity.Manager.TheVariants as managers
 use Rattle.rdb_base.specs.declared.operation.Op.{Op}
-use Rattle.rdb_base.specs.declared.operation.Op.TheVariants as op
 use Rattle.rdb_base.specs.declared.operation.Reply.{Reply}
 use Rattle.rdb_base.specs.declared.journal.Cause.{Cause}
 use Rattle.rdb_base.specs.declared.journal.Entry.{Entry}
 use Rattle.rdb_base.specs.declared.journal.Entry.TheVariants as entry
-use Rattle.rdb_base.specs.Operations.{class_of}
 use Rattle.rdb_pages.specs.declared.cell.CellRef.{CellRef}
 use Rattle.rdb_schema.specs.declared.schema.Schema.{Schema}
 use Rattle.rdb_registry.specs.declared.hand.Work.{Work}
 use Rattle.rdb_registry.specs.declared.seat.Transaction.{Transaction}
-use Rattle.rdb_registry.specs.Seats.{beginning, marked}
-use Rattle.rdb_sight.specs.Versions.{Versions}
+use Rattle.rdb_registry.specs.Seats.{beginning}
 use Rattle.rdb_model.specs.Answer.{answer}
 use Rattle.rdb_model.specs.Fits.{Fits}
 use Rattle.rdb_model.specs.Journal.{commits}
 use Rattle.rdb_model.specs.Touch.{written_by}
-use Rattle.rdb_history.specs.Rows.{row_left}
-use Rattle.rdb_history.specs.RowTouch.{IsUntouched}
-use Rattle.rdb_shown.specs.Changes.{Puts, DropsOwn, DropsGarbage, Stamps, HasNone}
-use Rattle.rdb_serial.specs.Progress.{Progress, Course, tx_of, holds, is_live, so_far, story_with, marks_of}
+use Rattle.rdb_shown.specs.Changes.{DropsOwn, DropsGarbage, HasNone}
+use Rattle.rdb_serial.specs.Progress.{Progress, tx_of, holds, is_live, so_far, story_with}
 use Rattle.rdb_serial.specs.Histories.{History, scene_of, shown_to, TakesOver, AreSameIn, IsFloor, AreHeldOnce}
 use Rattle.rdb_serial.specs.Serial.{IsCauseOf, IsUnrefused}
 
@@ -153,48 +148,6 @@ pub record PlansGarbage (before after : History) (slot class id floor : ℕ) : T
   pub least : IsFloor before.journal before.course floor
   pub drops : DropsGarbage (Some floor) before.aimed after.aimed class id
 
--- an operation, with the id of the object that it makes
-abbrev pub with_id : ℕ → Op → Op
-with_id id (op.New class row was) = op.New class row id
-with_id id o = o
-
--- an id is drawn in a class: one above all that were drawn there
-pub record DrawsId (class id : ℕ) (drawn now : List ℕ) : Type 0 where
-  pub above : slice_index drawn class < id
-  pub counted : id ≤ slice_index now class
-  pub grows : (other : ℕ) → slice_index drawn other ≤ slice_index now other
-
--- the object that an operation writes: one with a new id where it makes one, else the one that it names
-abbrev pub WritesObject : Op → ℕ → List ℕ → List ℕ → Type 0
-WritesObject (op.New class row was) id drawn now = DrawsId class id drawn now
-WritesObject (op.Put class named row) id drawn now = (id ≡ named) × (now ≡ drawn)
-WritesObject (op.Del class named) id drawn now = (id ≡ named) × (now ≡ drawn)
-WritesObject _ id drawn now = ⊥
-
--- It makes the own plan of the operation in work, which puts a version of what the operation leaves of its object.
-pub record PlansOwn (before after : History) (slot id : ℕ) (version : CellRef) : Type 0 where
-  pub was : Progress
-  pub transaction : Transaction
-  pub work : Work
-  pub to_plan : IsToPlan was transaction work
-  pub planned : Work
-  pub op_is : planned.op ≡ with_id id work.op
-  pub puts_is : planned.puts ≡ Some version
-  pub turns : Turns before after slot (Some was) (Some (record was { work = Some planned; plans = true }))
-  pub journal : after.journal ≡ before.journal
-  pub object : WritesObject work.op id before.drawn after.drawn
-  pub settled : after.settled ≡ before.settled
-  pub latched : holds was.latches (class_of work.op) ≡ true
-  pub puts : Puts before.aimed after.aimed (tx_of was transaction) (class_of work.op) id (row_left work.op)
-
--- The last cell of a plan is written where many may write: what its connection aims at in its classes is settled.
-pub record Settles (before after : History) (slot : ℕ) : Type 0 where
-  pub was : Progress
-  pub turns : Turns before after slot (Some was) (Some (record was { plans = false }))
-  pub journal : KeepsJournal before after
-  pub aimed : after.aimed ≡ before.aimed
-  pub settled : TakesOver was.latches before.settled before.aimed after.settled
-
 -- The operation in work is done, its own plan being written: it stands in the story with its reply. Where many may write, its versions are
 -- settled, and its latch is given up.
 pub record Finishes (manager : Manager) (before after : History) (slot : ℕ) (version : CellRef) : Type 0 where
@@ -226,7 +179,8 @@ pub record IsCondemned (before after : History) (slot : ℕ) : Type 0 where
   pub was : Progress
   pub turns : OnlyTurns before after slot (Some was) (Some (record was { condemned = true }))
 
--- A connection that doesn't go on gives up its plan, and what it likes of its work and its latches: what it aimed at is no longer spoken of.
+-- A connection that doesn't go on gives up its plan, and what it likes of its work and its latches: what it aimed at is no longer spoken
+-- of.
 pub record LaysDown (before after : History) (slot : ℕ) : Type 0 where
   pub was : Progress
   pub work : Option Work
@@ -283,45 +237,6 @@ pub record EndsRolledBack (before after : History) (slot : ℕ) : Type 0 where
   pub cause : was.cause ≡ Some why
   pub rest : IsAtRest was
   pub enters : Enters before after slot (Some was) (Some (ended latches was)) (entry.Abort (story_with was transaction was.done) why)
-
--- no other connection has an open transaction
-abbrev pub IsAlone : Course → ℕ → Type 0
-IsAlone course slot = (other : ℕ) (p : Progress) (t : Transaction) → other ≢ slot → course other ≡ Some p → p.transaction ≡ Some t → ⊥
-
--- What a mark asks where many may write: no commit above its snapshot touches the story, and the connection holds no latch. Under a single
--- writer nobody else has an open transaction.
-pub record MayMarkAmongMany (schema : Schema) (before : History) (p : Progress) (t : Transaction) : Type 0 where
-  pub untouched : IsUntouched schema before.journal (story_with p t p.done)
-  pub latches : p.latches ≡ 0
-
--- A transaction is marked as the next commit, and its story stands in the journal; what it aims at in its classes is settled.
-pub record Marks (schema : Schema) (manager : Manager) (before after : History) (slot : ℕ) : Type 0 where
-  pub was : Progress
-  pub transaction : Transaction
-  pub free : IsFreeOf was transaction
-  pub writes : transaction.kind ≡ kind.ReadWrite
-  pub plans : was.plans ≡ false
-  pub turns :
-      Turns before after slot (Some was)
-      (Some (record was { transaction = Some (marked (commits before.journal + 1) transaction); done = [] }))
-  pub entered : after.journal ≡ before.journal ++ entry.Commit (story_with was transaction was.done) (commits before.journal + 1) ∷ []
-  pub drawn : after.drawn ≡ before.drawn
-  pub aimed : after.aimed ≡ before.aimed
-  pub settled : TakesOver was.latches before.settled before.aimed after.settled
-  pub many : manager ≡ managers.Mvcc → MayMarkAmongMany schema before was transaction
-  pub single : manager ≡ managers.Mursiw → IsAlone before.course slot
-
--- A version of a marked transaction is stamped, among the settled ones and among those aimed at.
-pub record StampsVersion (manager : Manager) (before after : History) (slot class id : ℕ) : Type 0 where
-  pub was : Progress
-  pub transaction : Transaction
-  pub there : before.course slot ≡ Some was
-  pub open_one : was.transaction ≡ Some transaction
-  pub course : (other : ℕ) → after.course other ≡ before.course other
-  pub journal : KeepsJournal before after
-  pub settled : Stamps (marks_of before.course) before.settled after.settled (tx_of was transaction) class id
-  pub aimed : Stamps (marks_of before.course) before.aimed after.aimed (tx_of was transaction) class id
-  pub same : manager ≡ managers.Mvcc → AreSameIn class after.aimed after.settled
 
 -- no version is of a transaction any more
 pub record IsUnused (h : History) (p : Progress) (t : Transaction) : Type 0 where

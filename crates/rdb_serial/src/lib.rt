@@ -1,5 +1,5 @@
-//! That the journal is one serial history, and stays so: laws of what each move of a connection leaves of the journal, of the versions and
-//! of each connection's open work. Each is the contract of a function that does nothing; none speaks of a cell.
+//! That the journal is one serial history, and stays so: laws of what moves of a connection leave of the journal, of the versions and of
+//! each connection's open work. Each is the contract of a function that does nothing; none speaks of a cell.
 #![tactic(auto)]
 
 pub mod endings;
