@@ -1,0 +1,14 @@
+pub mod ViewLemmas
+pub mod ClassLemmas
+pub mod ChangeLemmas
+pub mod ProgressLemmas
+pub mod CarryLemmas
+pub mod TurnLemmas
+pub mod StillLemmas
+pub mod StoryLemmas
+pub mod StoryMoves
+pub mod EntryLemmas
+pub mod EndingMoves
+pub mod AimLemmas
+pub mod PlanMoves
+pub mod GivingMoves

@@ -1,0 +1,4 @@
+pub mod Progress
+pub mod Histories
+pub mod Serial
+pub mod Moves

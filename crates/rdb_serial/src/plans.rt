@@ -1,0 +1,21 @@
+//! Plans of drops are made: of a garbage version for an operation in work, of a version of a transaction that is given up.
+
+ghost use Rattle.std.specs.Prelude.{ℕ};
+ghost use Rattle.rdb_base.specs.declared.identity.Manager.{Manager};
+ghost use Rattle.rdb_schema.specs.declared.schema.Schema.{Schema};
+ghost use Rattle.rdb_serial.specs.Histories.{History, AreHeldOnce};
+ghost use Rattle.rdb_serial.specs.Serial.{IsSerial};
+ghost use Rattle.rdb_serial.specs.Moves.{PlansGarbage, PlansDrop};
+
+/// The drop of a garbage version is planned for an operation in work.
+pub fn a_garbage_plan_keeps_the_history()
+    ensures { (schema : Schema) (manager : Manager) (before after : History) (slot class id floor : ℕ) →
+        IsSerial schema manager before → AreHeldOnce before.course → PlansGarbage before after slot class id floor →
+        IsSerial schema manager after }
+{}
+
+/// The drop of a version of a transaction that is given up is planned.
+pub fn a_drop_plan_keeps_the_history()
+    ensures { (schema : Schema) (manager : Manager) (before after : History) (slot class id : ℕ) →
+        IsSerial schema manager before → AreHeldOnce after.course → PlansDrop before after slot class id → IsSerial schema manager after }
+{}
