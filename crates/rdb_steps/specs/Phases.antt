@@ -56,6 +56,7 @@ pub record IsWriting (manager : Manager) (classes : ℕ) (seat : Seat) : Type 0 
   pub work : seat.condemned ≡ None → IsSome seat.hand.work
   pub one : seat.condemned ≡ None → spans_one_plan manager ≡ true → (class other : ℕ) → HoldsLatch seat class
       → HoldsLatch seat other → class ≡ other
+  pub undo : seat.condemned ≡ None → spans_one_plan manager ≡ true → seat.hand.plan.pairs ≡ [] → seat.hand.undo.pairs ≡ []
   pub all : seat.condemned ≡ None → spans_one_plan manager ≡ false → seat.latches ≡ all_latches classes
 
 -- A writer takes back what it wrote. Under MVCC it holds a latch exactly while the drop of a version is planned; under MURSIW it has all
