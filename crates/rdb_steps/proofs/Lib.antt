@@ -10,3 +10,10 @@ pub mod DebtLemmas
 pub mod StoreLemmas
 pub mod MixLemmas
 pub mod KeptLemmas
+pub mod WholeLemmas
+pub mod PageLemmas
+pub mod HandKept
+pub mod WriteLemmas
+pub mod StayLemmas
+pub mod BackLemmas
+pub mod ReleaseLemmas

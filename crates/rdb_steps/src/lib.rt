@@ -14,7 +14,10 @@
 //! | a mark            | `a_mark_settles_what_was_aimed_at`     | those aimed at               | stay                         |
 #![tactic(auto)]
 
+mod finish;
+mod grant;
 mod laws;
+mod scratch;
 mod state;
 
 pub use laws::{
@@ -26,3 +29,4 @@ pub use laws::{
     own_writes_follow_the_versions,
 };
 pub use state::{Counters, State};
+pub use scratch::scratch_law;
