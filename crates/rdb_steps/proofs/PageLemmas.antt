@@ -1,5 +1,6 @@
 -- A page that is granted.
 use Rattle.std.proofs.Common.{◌≡◌, ◌⊎◌, ◌<◌, ◌-◌, ◌/◌, ℕ, zero, suc, List, length, Option, Some, None, IsSome, refl, sym, ap, subst, ◌∙◌, arith, inl, inr}
+use Rattle.std.proofs.lemmas.Bool.{false≢true}
 use Rattle.std.proofs.Permutation.{which}
 use Rattle.rdb_base.specs.declared.identity.Manager.{Manager}
 use Rattle.rdb_schema.specs.declared.schema.Schema.{Schema}
@@ -17,7 +18,7 @@ use Rattle.rdb_steps.specs.States.{ground_in}
 use Rattle.rdb_steps.proofs.GrantLemmas.{grown_lists}
 
 no_some : {A : Type 0} (o : Option A) → o ≡ None → IsSome o → ⊥
-no_some None e some = absurd some
+no_some None e some = false≢true some
 no_some (Some x) e some = absurd cc
 
 module _ (before after : RegionCells) (roll : Roll) (class page : ℕ) (bounded : AreBounded (image_of before) (class_of before)) (grants : GrantsPage before after class page) where

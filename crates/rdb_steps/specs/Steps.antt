@@ -1,5 +1,5 @@
 -- What each step that touches a cell, or a record's plan, does to a World's state, and what it leaves of the two lists of versions.
-use Rattle.std.specs.Prelude.{◌≡◌, ◌≢◌, ◌+◌, ◌-◌, ◌==◌, ◌&&◌, ◌∷◌, ◌++◌, ℕ, List, [], length, map, slice_set, slice_get, Bool, true, Option, Some, None, is_some, option_and_then, if◌then◌else◌}
+use Rattle.std.specs.Prelude.{◌≡◌, ◌≢◌, ◌+◌, ◌-◌, ◌==◌, ◌&&◌, ◌∷◌, ◌++◌, ℕ, List, [], length, map, slice_set, slice_get, drop, Bool, true, Option, Some, None, is_some, option_and_then, if◌then◌else◌}
 use Rattle.rdb_base.specs.declared.identity.ConnId.{ConnId}
 use Rattle.rdb_base.specs.declared.identity.Kind.TheVariants as kind
 use Rattle.rdb_base.specs.declared.identity.Manager.{Manager}
@@ -17,7 +17,8 @@ use Rattle.rdb_registry.specs.declared.own_writes.OwnWrite.{OwnWrite}
 use Rattle.rdb_registry.specs.declared.seat.Seat.{Seat}
 use Rattle.rdb_registry.specs.declared.seat.Transaction.{Transaction}
 use Rattle.rdb_registry.specs.OwnWrites.{header_of}
-use Rattle.rdb_registry.specs.Seats.{seat_of}
+use Rattle.rdb_registry.specs.Registry.{Roll}
+use Rattle.rdb_registry.specs.Seats.{Seats, seat_of, changed, with_hand, with_latches}
 use Rattle.rdb_sight.specs.Sight.{is_own}
 use Rattle.rdb_sight.specs.Versions.{Version, Versions, chain_in, with_chain_in}
 use Rattle.rdb_space.specs.Memory.{RegionCells, image_of, class_of}
@@ -90,6 +91,39 @@ pub record Finishes (before after : Hand) (work : Work) (version : CellRef) : Ty
     done = record { items = before.done.items ++ (work.op, reply_to work.op) ∷ []; room = before.done.room - 1 };
     own = after.own;
   }
+
+-- the header of the version that the plan at hand puts
+abbrev pub version_at : Hand → Option CellRef
+version_at hand = option_and_then (λ work. work.puts) hand.work
+
+-- the records, with the latches of that in one slot given up, where an undo record spans one plan
+abbrev pub released : Manager → Seats → ℕ → Seats
+released manager seats slot = if spans_one_plan manager then changed seats slot (with_latches 0) else seats
+
+-- A connection's operation ends whose version is written: its latch is given up, where it had it for this plan.
+pub record EndsWork (manager : Manager) (before after : Roll) (c : ConnId) (result : Reply) : Type 0 where
+  pub seat : Seat
+  pub work : Work
+  pub version : CellRef
+  pub hand : Hand
+  pub held : seat_of before.seats c ≡ Some seat
+  pub had : seat.hand.work ≡ Some work
+  pub puts : work.puts ≡ Some version
+  pub told : result ≡ reply_to work.op
+  pub finishes : Finishes seat.hand hand work version
+  pub records : after ≡ record before { seats = released manager (with_hand before.seats c.slot hand) c.slot }
+
+-- The first own write of a connection is forgotten, and its latches are given up.
+pub record ForgetsFirst (before after : Roll) (c : ConnId) : Type 0 where
+  pub seat : Seat
+  pub first : OwnWrite
+  pub hand : Hand
+  pub held : seat_of before.seats c ≡ Some seat
+  pub there : slice_get seat.hand.own.items 0 ≡ Some first
+  pub rest : hand ≡ record seat.hand { own = hand.own }
+  pub gone : (object : ℕ × ℕ) → header_of hand.own.items object ≡ header_of (drop 1 seat.hand.own.items) object
+  pub others : (object : ℕ × ℕ) → object ≢ (first.class, first.id) → header_of hand.own.items object ≡ header_of seat.hand.own.items object
+  pub records : after ≡ record before { seats = changed (with_hand before.seats c.slot hand) c.slot (with_latches 0) }
 
 -- a version, stamped as done by a commit where it is a transaction's
 abbrev pub done_version : TxId → ℕ → Version → Version

@@ -19,6 +19,7 @@ mod grant;
 mod laws;
 mod scratch;
 mod state;
+mod write;
 
 pub use laws::{
     a_cell_taken_back_leaves_the_settled, a_drop_leads_to_the_rest,
