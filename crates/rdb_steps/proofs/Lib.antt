@@ -17,3 +17,5 @@ pub mod WriteLemmas
 pub mod StayLemmas
 pub mod BackLemmas
 pub mod ReleaseLemmas
+pub mod FirstLemmas
+pub mod StateWrites
