@@ -1,5 +1,5 @@
 -- What every step keeps of a World's state, as a connection writes the next cell of its plan.
-use Rattle.std.proofs.Common.{◌≡◌, ◌≢◌, ◌<◌, ◌&&◌, ◌||◌, ◌==◌, ◌++◌, ◌∷◌, ℕ, List, [], length, Bool, true, false, not, cond, Option, Some, None, IsSome, IsSomeAnd, is_some, option_map, option_and_then, slice_get, refl, sym, ap, subst, ◌∙◌, arith, inl, inr, eqb-true}
+use Rattle.std.proofs.Common.{◌≡◌, ◌≢◌, ◌<◌, ◌&&◌, ◌||◌, ◌==◌, ◌++◌, ◌∷◌, ℕ, List, [], length, Bool, true, false, not, cond, Option, Some, None, IsSome, IsSomeAnd, is_some, option_map, option_and_then, slice_get, drop, refl, sym, ap, subst, ◌∙◌, arith, inl, inr, eqb-true}
 use Rattle.std.proofs.lemmas.Bool.{false≢true, ne_eqb}
 use Rattle.rdb_base.specs.declared.identity.ConnId.{ConnId}
 use Rattle.rdb_base.specs.declared.identity.Manager.{Manager}
@@ -14,6 +14,8 @@ use Rattle.rdb_registry.specs.declared.hand.Hand.{Hand}
 use Rattle.rdb_registry.specs.declared.hand.Work.{Work}
 use Rattle.rdb_registry.specs.declared.seat.Condemned.{Condemned}
 use Rattle.rdb_registry.specs.declared.seat.Seat.{Seat}
+use Rattle.rdb_registry.specs.declared.own_writes.OwnWrite.{OwnWrite}
+use Rattle.rdb_registry.specs.OwnWrites.{header_of}
 use Rattle.rdb_registry.specs.Registry.{Roll, IsRoll}
 use Rattle.rdb_registry.specs.Seats.{Seats, HoldsLatch, seat_in, seat_of, changed, with_hand, with_latches}
 use Rattle.rdb_sight.specs.Versions.{Versions}
@@ -28,7 +30,7 @@ use Rattle.rdb_steps.specs.Kept.{Agrees, IsLawful, aims, is_dropping, takes_back
 use Rattle.rdb_steps.specs.Lists.{taken_over}
 use Rattle.rdb_steps.specs.States.{ground_in}
 use Rattle.rdb_steps.specs.Steps.{EndsWork, Finishes, ForgetsFirst, is_at_last, released, settled_by_writing, version_at}
-use Rattle.rdb_steps.proofs.HandKept.{or_first, or_second, some_plan, turned_by, turned_then, work_same}
+use Rattle.rdb_steps.proofs.HandKept.{or_first, or_second, some_plan, turned_by, turned_then, own_same, work_same}
 use Rattle.rdb_steps.proofs.KeptLemmas.{Turns, ArePlaced, holders_turned}
 use Rattle.rdb_steps.proofs.MixLemmas.{taken_again}
 use Rattle.rdb_steps.proofs.PhaseLemmas.{takes_none_back}
@@ -200,3 +202,96 @@ module _ (schema : Schema) (manager : Manager) (serials : ℕ) (ids : List ℕ) 
               kept_written : (b : Bool) → is_written (cond b (record w.written { undo = record w.written.undo { pairs = [] } }) w.written) ≡ true
               kept_written true = written
               kept_written false = written
+
+  -- the drop of an own version goes on
+  pub drop_goes_on : IsSomeAnd (seat_of roll.seats c) (λ seat. is_dropping seat.hand ≡ true) → is_last ≡ false →
+      IsKept schema manager serials ids (ground_in memory_now mid) (settled_by_writing manager (seat_of roll.seats c) settled aimed) aimed
+  drop_goes_on drops_one on =
+      let drops = of_seat (λ seat. is_dropping seat.hand ≡ true) drops_one in
+      let left : is_written w.written ≡ false = sym w.last ∙ on in
+      let goes : ends manager w.written ≡ false = and_of (is_written w.written) (spans_one_plan manager) left in
+      subst (λ (vs : Versions). IsKept schema manager serials ids (ground_in memory_now mid) vs aimed) (as_written false goes)
+      (drop_on schema manager serials ids (ground_in memory roll) (ground_in memory_now mid) c is_last lawful works w settled aimed kept placed known drops (many drops) left goes)
+    where
+      many : is_dropping w.seat.hand ≡ true → spans_one_plan manager ≡ true
+      many drops = elim (true_or_false (spans_one_plan manager)) [
+        | inl yes_many ↦ yes_many
+        | inr single ↦ absurd (false≢true (sym (kept.drops c.slot w.seat at single) ∙ drops))
+      ]
+
+  -- and ends
+  pub drop_ends : IsSomeAnd (seat_of roll.seats c) (λ seat. is_dropping seat.hand ≡ true) → is_last ≡ true → (now : Roll) → ForgetsFirst mid now c →
+      IsKept schema manager serials ids (ground_in memory_now now) (settled_by_writing manager (seat_of roll.seats c) settled aimed) aimed
+  drop_ends drops_one last now e =
+      subst (λ (r : Roll). IsKept schema manager serials ids (ground_in memory_now r) (settled_by_writing manager (seat_of roll.seats c) settled aimed) aimed) (sym e.records)
+      (subst (λ (vs : Versions). IsKept schema manager serials ids (with_seats (ground_in memory_now mid) (changed (with_hand mid.seats c.slot e.hand) c.slot (with_latches 0))) vs aimed) (as_written true end)
+      (drop_done schema manager serials ids (ground_in memory roll) (ground_in memory_now mid) c is_last lawful works w settled aimed kept placed known drops many written end e.first
+      (ap (λ (ws : List OwnWrite). slice_get ws 0) (sym own_mid ∙ sym own_is) ∙ e.there) e.hand rest
+      (λ object. e.gone object ∙ ap (λ (ws : List OwnWrite). header_of (drop 1 ws) object) (own_is ∙ own_mid))
+      (λ object ne. e.others object ne ∙ ap (λ (ws : List OwnWrite). header_of ws object) (own_is ∙ own_mid))
+      (with_seats (ground_in memory_now mid) (changed (with_hand mid.seats c.slot e.hand) c.slot (with_latches 0))) turns_latches
+      (subst (λ (vs : Versions). Agrees schema manager (with_seats (ground_in memory_now mid) (changed (with_hand mid.seats c.slot e.hand) c.slot (with_latches 0))) (taken_over w.seat settled aimed) vs)
+      (taken_again w.seat settled aimed (kept.agrees.rest.count ∙ sym kept.agrees.stands.count))
+      (latches_go schema manager (ground_in memory_now mid) c (record w.seat { hand = ended manager w.written }) e.hand lawful works one_mid seat_mid undo_same plan_same
+      (ap (λ (r : Record). r.pairs) undo_same ∙ forgotten) empty spoken (taken_over w.seat settled aimed) aimed
+      (agrees_mid schema manager serials ids (ground_in memory roll) (ground_in memory_now mid) c is_last lawful works w settled aimed kept placed known
+      (or_first (is_dropping w.seat.hand) _ drops) (λ single. absurd (false≢true (sym single ∙ many))) true end)))))
+    where
+      drops : is_dropping w.seat.hand ≡ true
+      drops = of_seat (λ seat. is_dropping seat.hand ≡ true) drops_one
+
+      many : spans_one_plan manager ≡ true
+      many = elim (true_or_false (spans_one_plan manager)) [
+        | inl yes_many ↦ yes_many
+        | inr single ↦ absurd (false≢true (sym (kept.drops c.slot w.seat at single) ∙ drops))
+      ]
+
+      written : is_written w.written ≡ true
+      written = sym w.last ∙ last
+
+      end : ends manager w.written ≡ true
+      end = λ i. written i && many i
+
+      forgotten : (ended manager w.written).undo.pairs ≡ []
+      forgotten = ap (λ (b : Bool). (cond b (record w.written { undo = record w.written.undo { pairs = [] } }) w.written).undo.pairs) end
+
+      is : e.seat ≡ record w.seat { hand = ended manager w.written }
+      is = same_seat mid.seats c e.seat (record w.seat { hand = ended manager w.written }) e.held seat_mid
+
+      own_is : e.seat.hand.own.items ≡ (ended manager w.written).own.items
+      own_is = ap (λ (s : Seat). s.hand.own.items) is
+
+      own_mid : (ended manager w.written).own.items ≡ w.seat.hand.own.items
+      own_mid = own_same manager (length schema.classes) w.seat (ended manager w.written) w.works.rest
+
+      rest : e.hand ≡ record (ended manager w.written) { own = e.hand.own }
+      rest = e.rest ∙ ap (λ (s : Seat). record s.hand { own = e.hand.own }) is
+
+      undo_same : e.hand.undo ≡ (ended manager w.written).undo
+      undo_same = ap (λ (x : Hand). x.undo) rest
+
+      plan_same : e.hand.plan ≡ (ended manager w.written).plan
+      plan_same = ap (λ (x : Hand). x.plan) rest
+
+      spoken : aims manager (record w.seat { hand = e.hand }) ≡ aims manager (record w.seat { hand = ended manager w.written })
+      spoken = ap (λ (x : Hand). aims manager (record w.seat { hand = x })) rest
+
+      no_pairs : (ps : List Pair) → length ps ≡ 0 → ps ≡ []
+      no_pairs [] g = refl
+      no_pairs (p ∷ ps) g = absurd (omega (arith, g))
+
+      written_too : (b : Bool) → is_written (cond b (record w.written { undo = record w.written.undo { pairs = [] } }) w.written) ≡ true
+      written_too true = written
+      written_too false = written
+
+      empty : e.hand.plan.pairs ≡ []
+      empty = no_pairs e.hand.plan.pairs (eqb-true (length e.hand.plan.pairs) 0 (ap is_written rest ∙ written_too (ends manager w.written)))
+
+      turns_hand : Turns mid.seats (with_hand mid.seats c.slot e.hand) c.slot (record w.seat { hand = ended manager w.written }) (record w.seat { hand = e.hand })
+      turns_hand = turned_by mid.seats (with_hand mid.seats c.slot e.hand) c (record w.seat { hand = ended manager w.written }) (λ (s : Seat). record s { hand = e.hand })
+          (in_its_slot mid.seats c (record w.seat { hand = ended manager w.written }) seat_mid) refl refl refl (λ class held. held)
+
+      turns_latches : Turns mid.seats (changed (with_hand mid.seats c.slot e.hand) c.slot (with_latches 0)) c.slot (record w.seat { hand = ended manager w.written }) (record w.seat { hand = e.hand; latches = 0 })
+      turns_latches = turned_then turns_hand
+          (turned_by (with_hand mid.seats c.slot e.hand) (changed (with_hand mid.seats c.slot e.hand) c.slot (with_latches 0)) c (record w.seat { hand = e.hand }) (with_latches 0)
+          turns_hand.is refl refl refl (λ class held. absurd (no_latches (record w.seat { hand = e.hand }) class held)))

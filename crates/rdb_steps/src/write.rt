@@ -4,13 +4,12 @@
 ghost use Rattle.std.specs.Prelude.{◌≡◌, ◌≢◌, ◌<◌, ℕ, [], length, drop, slice_get, true, Some, None, IsSome, IsSomeAnd, IfSome};
 ghost use Rattle.rdb_base.specs.declared.identity.Phase.TheVariants as phase;
 ghost use Rattle.rdb_registry.specs.declared.own_writes.OwnWrite.{OwnWrite as OwnWriteValue};
-ghost use Rattle.rdb_registry.specs.declared.seat.Seat.{Seat};
 ghost use Rattle.rdb_registry.specs.OwnWrites.{header_of};
 ghost use Rattle.rdb_registry.specs.Seats.{IsHeld, seat_of};
 ghost use Rattle.rdb_steps.specs.Kept.{is_dropping};
 ghost use Rattle.rdb_steps.specs.Lists.{the_aimed};
 ghost use Rattle.rdb_steps.specs.States.{IsKeptSomehow, IsWhole};
-ghost use Rattle.rdb_steps.specs.Steps.{KeepsAs, OnRecord, WritesOne, EndsWork, ForgetsFirst, seat_at, settled_by_writing, reply_next, version_at};
+ghost use Rattle.rdb_steps.specs.Steps.{KeepsAs, WritesOne, EndsWork, ForgetsFirst, seat_at, settled_by_writing, reply_next, version_at};
 
 use crate::finish::finish;
 use crate::state::State;
@@ -31,10 +30,8 @@ impl<P: Pages> State<P> {
         requires writing { IsSomeAnd (seat_at self.old c) (λ seat. seat.hand.phase ≡ phase.Writing) }
         requires plan { IsSomeAnd (seat_at self.old c) (λ seat. 0 < length seat.hand.plan.pairs) }
         ensures kept { KeepsAs self.old self.new (settled_by_writing self.old.transactions.manager (seat_at self.old c)) the_aimed }
-        ensures whole { IsWhole self.new }
         ensures reply { IsSomeAnd (seat_at self.old c) (λ seat. result ≡ reply_next seat.hand) }
         ensures cell { WritesOne self.old.memory self.new.memory }
-        ensures record { IsSomeAnd (seat_at self.old c) (λ seat. (now : Seat) × OnRecord self.old self.new c seat now) }
     {
         self.transactions.registry.sound();
         let is_last = write_next(
@@ -57,9 +54,7 @@ impl<P: Pages> State<P> {
         requires kept { IsKeptSomehow self.old }
         requires dropping { IsSomeAnd (seat_at self.old c) (λ seat. is_dropping seat.hand ≡ true) }
         ensures kept { KeepsAs self.old self.new (settled_by_writing self.old.transactions.manager (seat_at self.old c)) the_aimed }
-        ensures whole { IsWhole self.new }
         ensures cell { WritesOne self.old.memory self.new.memory }
-        ensures record { IsSomeAnd (seat_at self.old c) (λ seat. (now : Seat) × OnRecord self.old self.new c seat now) }
     {
         self.transactions.registry.sound();
         let is_last = write_next(
