@@ -15,7 +15,6 @@ pub mod PageLemmas
 pub mod HandKept
 pub mod WriteLemmas
 pub mod StayLemmas
-pub mod BackLemmas
 pub mod ReleaseLemmas
 pub mod FirstLemmas
 pub mod StateWrites

@@ -1,5 +1,5 @@
 -- What every step keeps of a World's state, as a connection writes the next cell of its plan.
-use Rattle.std.proofs.Common.{◌≡◌, ◌≢◌, ◌<◌, ◌&&◌, ◌||◌, ◌==◌, ◌++◌, ◌∷◌, ℕ, List, [], length, Bool, true, false, not, cond, Option, Some, None, IsSome, IsSomeAnd, is_some, option_map, option_and_then, slice_get, drop, refl, sym, ap, subst, ◌∙◌, arith, inl, inr, eqb-true}
+use Rattle.std.proofs.Common.{◌≡◌, ◌≢◌, ◌<◌, ◌&&◌, ◌||◌, ◌==◌, ◌++◌, ◌∷◌, ℕ, List, [], length, Bool, true, false, not, cond, Option, Some, None, IsSome, IsSomeAnd, IfSome, is_some, option_map, option_and_then, slice_get, drop, refl, sym, ap, subst, ◌∙◌, arith, inl, inr, eqb-true}
 use Rattle.std.proofs.lemmas.Bool.{false≢true, ne_eqb}
 use Rattle.rdb_base.specs.declared.identity.ConnId.{ConnId}
 use Rattle.rdb_base.specs.declared.identity.Manager.{Manager}
@@ -17,7 +17,7 @@ use Rattle.rdb_registry.specs.declared.seat.Seat.{Seat}
 use Rattle.rdb_registry.specs.declared.own_writes.OwnWrite.{OwnWrite}
 use Rattle.rdb_registry.specs.OwnWrites.{header_of}
 use Rattle.rdb_registry.specs.Registry.{Roll, IsRoll}
-use Rattle.rdb_registry.specs.Seats.{Seats, HoldsLatch, seat_in, seat_of, changed, with_hand, with_latches}
+use Rattle.rdb_registry.specs.Seats.{Seats, EachSeat, IsHeld, HoldsLatch, seat_in, seat_of, changed, with_hand, with_latches}
 use Rattle.rdb_sight.specs.Versions.{Versions}
 use Rattle.rdb_space.specs.Memory.{RegionCells}
 use Rattle.rdb_transactions.proofs.EditLemmas.{record_after, same_seat}
@@ -28,8 +28,8 @@ use Rattle.rdb_writes.proofs.WorkLemmas.{in_its_slot}
 use Rattle.rdb_steps.specs.Invariant.{IsKept}
 use Rattle.rdb_steps.specs.Kept.{Agrees, IsLawful, aims, is_dropping, takes_back}
 use Rattle.rdb_steps.specs.Lists.{taken_over}
-use Rattle.rdb_steps.specs.States.{ground_in}
-use Rattle.rdb_steps.specs.Steps.{EndsWork, Finishes, ForgetsFirst, is_at_last, released, settled_by_writing, version_at}
+use Rattle.rdb_steps.specs.States.{IsFurnished, ground_in}
+use Rattle.rdb_steps.specs.Steps.{EndsWork, Finishes, ForgetsFirst, is_at_last, released, reply_next, reply_to, settled_by_writing, version_at, WritesOne}
 use Rattle.rdb_steps.proofs.HandKept.{or_first, or_second, some_plan, turned_by, turned_then, own_same, work_same}
 use Rattle.rdb_steps.proofs.KeptLemmas.{Turns, ArePlaced, holders_turned}
 use Rattle.rdb_steps.proofs.MixLemmas.{taken_again}
@@ -46,6 +46,16 @@ one_more (q ∷ qs) p =
 and_of : (a b : Bool) → a ≡ false → (a && b) ≡ false
 and_of true b e = absurd (false≢true (sym e))
 and_of false b e = refl
+
+-- what is told with the last cell
+reply_none : (work : Option Work) → option_and_then (λ (x : Work). x.puts) work ≡ None → ◌≡◌ {A = Option Reply} None (option_and_then (λ (x : Work). cond (is_some x.puts) (Some (reply_to x.op)) None) work)
+reply_none None e = refl
+reply_none (Some x) e = ap (λ (p : Option CellRef). cond (is_some p) (Some (reply_to x.op)) None) (sym e)
+
+reply_some : (work : Option Work) (x : Work) (version : CellRef) → work ≡ Some x → x.puts ≡ Some version → ◌≡◌ {A = Option Reply} (Some (reply_to x.op)) (option_and_then (λ (y : Work). cond (is_some y.puts) (Some (reply_to y.op)) None) work)
+reply_some work x version had puts = sym
+    (ap (option_and_then (λ (y : Work). cond (is_some y.puts) (Some (reply_to y.op)) None)) had
+    ∙ ap (λ (p : Option CellRef). cond (is_some p) (Some (reply_to x.op)) None) puts)
 
 module _ (schema : Schema) (manager : Manager) (serials : ℕ) (ids : List ℕ) (memory memory_now : RegionCells) (roll mid : Roll) (c : ConnId) (is_last : Bool) (lawful : IsLawful schema) (classes : roll.classes ≡ length schema.classes) (sound : IsRoll roll) (w : WritesNext manager (ground_in memory roll) (ground_in memory_now mid) c is_last) (works : AreWorks (ground_in memory_now mid)) (settled aimed : Versions) (kept : IsKept schema manager serials ids (ground_in memory roll) settled aimed) where
   at : seat_in roll.seats c.slot ≡ Some w.seat
@@ -295,3 +305,52 @@ module _ (schema : Schema) (manager : Manager) (serials : ℕ) (ids : List ℕ) 
       turns_latches = turned_then turns_hand
           (turned_by (with_hand mid.seats c.slot e.hand) (changed (with_hand mid.seats c.slot e.hand) c.slot (with_latches 0)) c (record w.seat { hand = e.hand }) (with_latches 0)
           turns_hand.is refl refl refl (λ class held. absurd (no_latches (record w.seat { hand = e.hand }) class held)))
+
+  -- one cell is written
+  pub writes_one : memory_now.owners ≡ memory.owners → WritesOne memory memory_now
+  writes_one owners = record { at = w.next.at.number; elsewhere = λ n ne. w.planned.written.elsewhere n ne; classes = λ n. w.works.classes n; owners = owners }
+
+  -- what is so of the record after the cell, where it is so of every hand with another undo record and another plan
+  pub held_mid : IsHeld mid.seats c
+  held_mid = subst (λ (o : Option Seat). IsSome o) (sym seat_mid) refl
+
+  pub room_mid : (P : Hand → Type 0) → P (record w.seat.hand { undo = (ended manager w.written).undo; plan = (ended manager w.written).plan }) → IsSomeAnd (seat_of mid.seats c) (λ seat. P seat.hand)
+  room_mid P here = subst (λ (o : Option Seat). IsSomeAnd o (λ seat. P seat.hand)) (sym seat_mid) (subst P (sym w.works.rest) here)
+
+  pub furnished_here : (cells : ℕ) → EachSeat (λ slot. IsFurnished schema manager cells) roll.seats → IsFurnished schema manager cells w.seat
+  furnished_here cells all = all c.slot w.seat at
+
+  -- a drop is of the first own write, which there is
+  pub has_first : IsSomeAnd (seat_of roll.seats c) (λ seat. is_dropping seat.hand ≡ true) → w.seat.hand.own.items ≡ [] → ⊥
+  has_first drops_one none =
+      let drops = of_seat (λ seat. is_dropping seat.hand ≡ true) drops_one in
+      let left = unwritten schema manager serials ids (ground_in memory roll) (ground_in memory_now mid) c is_last lawful works w settled aimed kept placed known in
+      let leads = kept.plans c.slot w.seat at (or_first (is_dropping w.seat.hand) _ drops) left in
+      subst (λ (ws : List OwnWrite). IsSomeAnd (slice_get ws 0) (λ own. HoldsLatch w.seat own.class)) none (leads.first drops)
+
+  -- the operation goes on, or ends, as its result says
+  pub work_told : IsSomeAnd (seat_of roll.seats c) (λ seat. seat.condemned ≡ None) → IsSomeAnd (seat_of roll.seats c) (λ seat. seat.hand.phase ≡ phase.Writing) → is_last ≡ true → (now : Roll) (result : Option Reply) →
+      (result ≡ None → IsSomeAnd (seat_of mid.seats c) (λ seat. version_at seat.hand ≡ None)) → (result ≡ None → now ≡ mid) → IfSome result (EndsWork manager mid now c) →
+      IsKept schema manager serials ids (ground_in memory_now now) (settled_by_writing manager (seat_of roll.seats c) settled aimed) aimed
+  work_told live writing last now None none same told = work_ended_none live writing now (same refl) (none refl)
+  work_told live writing last now (Some reply) none same told = work_ended live writing last now reply told
+
+  pub reply_on : is_last ≡ false → IsSomeAnd (seat_of roll.seats c) (λ seat. ◌≡◌ {A = Option Reply} None (reply_next seat.hand))
+  reply_on on = subst (λ (o : Option Seat). IsSomeAnd o (λ seat. ◌≡◌ {A = Option Reply} None (reply_next seat.hand))) (sym w.works.held)
+      (sym (ap (λ (b : Bool). cond b (option_and_then (λ (x : Work). cond (is_some x.puts) (Some (reply_to x.op)) None) w.seat.hand.work) None) (at_last ∙ sym w.last ∙ on)))
+
+  reply_last : is_last ≡ true → (result : Option Reply) → result ≡ option_and_then (λ (x : Work). cond (is_some x.puts) (Some (reply_to x.op)) None) w.seat.hand.work → IsSomeAnd (seat_of roll.seats c) (λ seat. result ≡ reply_next seat.hand)
+  reply_last last result e = subst (λ (o : Option Seat). IsSomeAnd o (λ seat. result ≡ reply_next seat.hand)) (sym w.works.held)
+      (e ∙ sym (ap (λ (b : Bool). cond b (option_and_then (λ (x : Work). cond (is_some x.puts) (Some (reply_to x.op)) None) w.seat.hand.work) None) (at_last ∙ sym w.last ∙ last)))
+
+  pub reply_told : is_last ≡ true → (now : Roll) (result : Option Reply) →
+      (result ≡ None → IsSomeAnd (seat_of mid.seats c) (λ seat. version_at seat.hand ≡ None)) → IfSome result (EndsWork manager mid now c) → IsSomeAnd (seat_of roll.seats c) (λ seat. result ≡ reply_next seat.hand)
+  reply_told last now None none told =
+      let here = subst (λ (o : Option Seat). IsSomeAnd o (λ seat. version_at seat.hand ≡ None)) seat_mid (none refl) in
+      let same = work_same manager (length schema.classes) w.seat (ended manager w.written) w.works.rest in
+      reply_last last None (reply_none w.seat.hand.work (ap (option_and_then (λ (x : Work). x.puts)) (sym same) ∙ here))
+  reply_told last now (Some reply) none e =
+      let is = same_seat mid.seats c e.seat (record w.seat { hand = ended manager w.written }) e.held seat_mid in
+      let same = work_same manager (length schema.classes) w.seat (ended manager w.written) w.works.rest in
+      let had : w.seat.hand.work ≡ Some e.work = sym same ∙ sym (ap (λ (s : Seat). s.hand.work) is) ∙ e.had in
+      reply_last last (Some reply) (ap (λ (r : Reply). Some r) e.told ∙ reply_some w.seat.hand.work e.work e.version had e.puts)

@@ -1,7 +1,0 @@
-//! Scratch.
-ghost use Rattle.std.specs.Prelude.{◌≡◌, ℕ};
-
-/// Scratch.
-pub fn scratch_law()
-    ensures { (n : ℕ) → n ≡ n }
-{}
