@@ -18,3 +18,5 @@ pub mod StayLemmas
 pub mod ReleaseLemmas
 pub mod FirstLemmas
 pub mod StateWrites
+pub mod BackLemmas
+pub mod StateBacks

@@ -125,6 +125,11 @@ pub record ForgetsFirst (before after : Roll) (c : ConnId) : Type 0 where
   pub others : (object : ℕ × ℕ) → object ≢ (first.class, first.id) → header_of hand.own.items object ≡ header_of seat.hand.own.items object
   pub records : after ≡ record before { seats = changed (with_hand before.seats c.slot hand) c.slot (with_latches 0) }
 
+-- the hand without own writes, where nothing is left to take back
+abbrev pub forgetting_own : Hand → Hand
+forgetting_own hand =
+    if length hand.undo.pairs == 0 then record hand { own = record { items = []; room = hand.own.room + length hand.own.items } } else hand
+
 -- a version, stamped as done by a commit where it is a transaction's
 abbrev pub done_version : TxId → ℕ → Version → Version
 done_version tx commit v = if is_own (Some tx) v.stamp then record v { stamp = stamp.Done commit } else v

@@ -18,6 +18,7 @@ mod finish;
 mod grant;
 mod laws;
 mod state;
+mod take_back;
 mod write;
 
 pub use laws::{
