@@ -1,34 +1,29 @@
 -- What every step keeps, as a cell is taken back, or what is left of a condemned connection's work is given up.
-use Rattle.std.proofs.Common.{◌≡◌, ◌≢◌, ◌<◌, ◌&&◌, ◌||◌, ◌==◌, ℕ, List, [], length, Bool, true, false, not, Option, Some, None, IsSome, IsSomeAnd, is_some, is_none, option_map, refl, sym, ap, subst, ◌∙◌, arith, inl, inr, eqb-true, ◌∷◌}
+use Rattle.std.proofs.Common.{◌≡◌, ◌&&◌, ◌||◌, ◌==◌, ℕ, List, [], length, Bool, true, false, not, Option, Some, None, is_none, option_map, refl, sym, ap, ◌∙◌, arith, inl, inr, eqb-true, ◌∷◌}
 use Rattle.std.proofs.lemmas.Bool.{false≢true}
 use Rattle.rdb_base.specs.declared.identity.ConnId.{ConnId}
 use Rattle.rdb_base.specs.declared.identity.Kind.TheVariants as kind
 use Rattle.rdb_base.specs.declared.identity.Manager.{Manager}
-use Rattle.rdb_base.specs.declared.identity.Phase.{Phase}
-use Rattle.rdb_base.specs.declared.identity.Phase.TheVariants as phase
 use Rattle.rdb_base.specs.declared.identity.TxId.{TxId}
 use Rattle.rdb_schema.specs.declared.schema.Schema.{Schema}
 use Rattle.rdb_cells.specs.declared.pairs.Pair.{Pair}
 use Rattle.rdb_cells.proofs.SettledLemmas.{true_or_false}
 use Rattle.rdb_registry.specs.declared.hand.Hand.{Hand}
-use Rattle.rdb_registry.specs.declared.hand.Work.{Work}
 use Rattle.rdb_registry.specs.declared.own_writes.OwnWrite.{OwnWrite}
 use Rattle.rdb_registry.specs.declared.seat.Seat.{Seat}
 use Rattle.rdb_registry.specs.declared.seat.Transaction.{Transaction}
 use Rattle.rdb_registry.specs.OwnWrites.{header_of}
-use Rattle.rdb_registry.specs.Seats.{Seats, HoldsLatch, seat_in}
 use Rattle.rdb_sight.specs.Versions.{Versions, chain_in, own_version}
 use Rattle.rdb_store.specs.Stored.{ref_of}
 use Rattle.rdb_writes.specs.Grounds.{Ground}
-use Rattle.rdb_writes.specs.Steps.{spans_one_plan, is_written}
-use Rattle.rdb_steps.specs.Invariant.{IsKept, DropsNone}
-use Rattle.rdb_steps.specs.Kept.{Agrees, OwnAre, Owns, aims, is_dropping, is_marked, owns_settled, takes_back, tx_of}
+use Rattle.rdb_writes.specs.Steps.{spans_one_plan}
+use Rattle.rdb_steps.specs.Invariant.{IsKept}
+use Rattle.rdb_steps.specs.Kept.{Agrees, OwnAre, Owns, aims, is_dropping, is_marked, takes_back, tx_of}
 use Rattle.rdb_steps.specs.Lists.{taken_over}
-use Rattle.rdb_steps.specs.Phases.{Rests, RestsIn, IsWriter}
-use Rattle.rdb_steps.specs.Planned.{PlanIsGood}
+use Rattle.rdb_steps.specs.Phases.{Rests}
 use Rattle.rdb_steps.proofs.MixLemmas.{mix_same, mix_taken}
 use Rattle.rdb_steps.proofs.KeptLemmas.{Turns, ArePlaced, kept_turned}
-use Rattle.rdb_steps.proofs.HandKept.{or_first, or_second, some_none, some_not}
+use Rattle.rdb_steps.proofs.HandKept.{or_first, or_second}
 
 -- without a plan no drop is planned
 pub none_dropped : (hand : Hand) → hand.plan.pairs ≡ [] → is_dropping hand ≡ false
@@ -69,21 +64,21 @@ module _ (manager : Manager) (seat now : Seat) (conn : now.conn ≡ seat.conn) (
       (spans_one_plan manager ≡ false → now.hand.undo.pairs ≡ [] → now.hand.own.items ≡ []) → OwnAre manager now settled aimed_now
   own_back taking unmarked items cleared = elim (true_or_false (spans_one_plan manager)) [
     | inl many ↦ record {
-        are_settled = λ e. owns_still (items many) (own.are_settled (or_first (spans_one_plan manager) _ many));
-        are_made = λ e f. absurd (false≢true (sym f ∙ taking));
-        none_settled = λ e. absurd (false≢true (sym e ∙ many));
-        none_logged = λ e. absurd (false≢true (sym e ∙ many));
-      }
+      are_settled = λ e. owns_still (items many) (own.are_settled (or_first (spans_one_plan manager) _ many));
+      are_made = λ e f. absurd (false≢true (sym f ∙ taking));
+      none_settled = λ e. absurd (false≢true (sym e ∙ many));
+      none_logged = λ e. absurd (false≢true (sym e ∙ many));
+    }
     | inr single ↦ record {
-        are_settled = λ e t open_now class id.
-            let back = or_else (is_marked now) (takes_back manager now && (length now.hand.undo.pairs == 0)) (or_else (spans_one_plan manager) _ e single) (marked_same ∙ unmarked) in
-            let empty = no_pairs now.hand.undo.pairs (eqb-true (length now.hand.undo.pairs) 0 (and_snd (takes_back manager now) (length now.hand.undo.pairs == 0) back)) in
-            ap (λ (ws : List OwnWrite). header_of ws (class, id)) (cleared single empty)
-            ∙ sym (ap (option_map ref_of) (none_still unmarked single t open_now class id));
-        are_made = λ e f. absurd (false≢true (sym f ∙ taking));
-        none_settled = λ e f. none_still unmarked single;
-        none_logged = λ e f. cleared single;
-      }
+      are_settled = λ e t open_now class id.
+          let back = or_else (is_marked now) (takes_back manager now && (length now.hand.undo.pairs == 0)) (or_else (spans_one_plan manager) _ e single) (marked_same ∙ unmarked) in
+          let empty = no_pairs now.hand.undo.pairs (eqb-true (length now.hand.undo.pairs) 0 (and_snd (takes_back manager now) (length now.hand.undo.pairs == 0) back)) in
+          ap (λ (ws : List OwnWrite). header_of ws (class, id)) (cleared single empty)
+          ∙ sym (ap (option_map ref_of) (none_still unmarked single t open_now class id));
+      are_made = λ e f. absurd (false≢true (sym f ∙ taking));
+      none_settled = λ e f. none_still unmarked single;
+      none_logged = λ e f. cleared single;
+    }
   ]
     where
       no_pairs : (ps : List Pair) → length ps ≡ 0 → ps ≡ []

@@ -1,7 +1,7 @@
 -- The first object that a transaction wrote is forgotten.
-use Rattle.std.proofs.Common.{◌≡◌, ◌≢◌, ◌∷◌, ℕ, List, [], drop, Option, Some, None, slice_get, refl, sym, ap, subst, ◌∙◌, inl, inr}
+use Rattle.std.proofs.Common.{◌≡◌, ◌≢◌, ◌∷◌, ℕ, List, [], drop, Option, Some, None, slice_get, refl, sym, ap, ◌∙◌, inl, inr}
 use Rattle.rdb_registry.specs.declared.own_writes.OwnWrite.{OwnWrite}
-use Rattle.rdb_registry.specs.OwnWrites.{AreOrdered, Cut, header_of, object_of}
+use Rattle.rdb_registry.specs.OwnWrites.{AreOrdered, Cut, header_of}
 use Rattle.rdb_registry.proofs.OwnLemmas.{here_without, others_with}
 use Rattle.rdb_steps.proofs.OwnLemmas.{object_is}
 

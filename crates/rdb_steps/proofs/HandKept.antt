@@ -1,5 +1,5 @@
 -- What is so of a record whose hand has another undo record and another plan, and no other change.
-use Rattle.std.proofs.Common.{◌≡◌, ◌≢◌, ◌&&◌, ◌||◌, ◌==◌, ℕ, List, [], length, Bool, true, false, not, cond, Option, Some, None, IsSome, IsSomeAnd, is_some, is_none, slice_get, option_map, refl, sym, ap, subst, ◌∙◌, inl, inr}
+use Rattle.std.proofs.Common.{◌≡◌, ◌&&◌, ◌||◌, ◌==◌, ℕ, List, [], length, Bool, true, false, not, Option, Some, None, IsSome, IsSomeAnd, is_none, slice_get, option_map, refl, sym, ap, subst, ◌∙◌}
 use Rattle.std.proofs.lemmas.Bool.{false≢true}
 use Rattle.rdb_base.specs.declared.identity.ConnId.{ConnId}
 use Rattle.rdb_base.specs.declared.identity.Kind.TheVariants as kind
@@ -11,7 +11,6 @@ use Rattle.rdb_registry.specs.declared.hand.Hand.{Hand}
 use Rattle.rdb_registry.specs.declared.hand.Work.{Work}
 use Rattle.rdb_registry.specs.declared.own_writes.OwnWrite.{OwnWrite}
 use Rattle.rdb_registry.specs.declared.seat.Seat.{Seat}
-use Rattle.rdb_registry.specs.declared.seat.Transaction.{Transaction}
 use Rattle.rdb_registry.specs.OwnWrites.{header_of}
 use Rattle.rdb_registry.specs.Seats.{Seats, HoldsLatch, seat_in, changed}
 use Rattle.rdb_registry.proofs.RecordLaws.{changed_here}
@@ -20,7 +19,7 @@ use Rattle.rdb_sight.specs.Versions.{Versions}
 use Rattle.rdb_writes.specs.Steps.{spans_one_plan, is_written}
 use Rattle.rdb_steps.specs.Kept.{OwnAre, Owns, is_dropping, is_marked, owns_settled, takes_back}
 use Rattle.rdb_steps.specs.Phases.{IsWriting, Rests, RestsIn}
-use Rattle.rdb_steps.specs.Planned.{HoldsFirst, PlanIsGood, PlanLeads, header_after}
+use Rattle.rdb_steps.specs.Planned.{PlanIsGood, PlanLeads, header_after}
 use Rattle.rdb_steps.proofs.KeptLemmas.{Turns}
 
 -- the record in a connection's slot is changed

@@ -1,12 +1,11 @@
 -- A page that is granted.
-use Rattle.std.proofs.Common.{◌≡◌, ◌⊎◌, ◌<◌, ◌-◌, ◌/◌, ℕ, zero, suc, List, length, Option, Some, None, IsSome, refl, sym, ap, subst, ◌∙◌, arith, inl, inr}
+use Rattle.std.proofs.Common.{◌≡◌, ◌⊎◌, ◌-◌, ◌/◌, ℕ, zero, suc, List, Option, Some, None, IsSome, refl, ◌∙◌, arith, inl, inr}
 use Rattle.std.proofs.lemmas.Bool.{false≢true}
 use Rattle.std.proofs.Permutation.{which}
 use Rattle.rdb_base.specs.declared.identity.Manager.{Manager}
 use Rattle.rdb_schema.specs.declared.schema.Schema.{Schema}
-use Rattle.rdb_pages.specs.declared.cell.Cell.{Cell}
 use Rattle.rdb_pages.specs.Pages.{page_cells}
-use Rattle.rdb_cells.specs.Images.{AreBounded, IsCell}
+use Rattle.rdb_cells.specs.Images.{AreBounded}
 use Rattle.rdb_registry.specs.Registry.{Roll}
 use Rattle.rdb_sight.specs.Versions.{Versions}
 use Rattle.rdb_space.specs.Memory.{RegionCells, image_of, class_of, IsInPage, GrantsPage}

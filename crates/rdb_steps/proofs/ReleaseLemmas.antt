@@ -1,5 +1,5 @@
 -- Behind its last cell a connection's hand changes, and its latches are given up.
-use Rattle.std.proofs.Common.{◌≡◌, ◌<◌, ◌+◌, ℕ, List, [], length, Bool, true, false, Some, None, option_map, refl, sym, ap, subst, ◌∙◌, arith, inl, inr}
+use Rattle.std.proofs.Common.{◌≡◌, ℕ, List, [], true, Some, option_map, refl, sym, ap, subst, ◌∙◌, arith, inl, inr}
 use Rattle.std.proofs.lemmas.Nat.Bits.{bit_at-zero}
 use Rattle.rdb_base.specs.declared.identity.ConnId.{ConnId}
 use Rattle.rdb_base.specs.declared.identity.Manager.{Manager}
@@ -9,16 +9,16 @@ use Rattle.rdb_cells.specs.Records.{Record, names}
 use Rattle.rdb_registry.specs.declared.hand.Hand.{Hand}
 use Rattle.rdb_registry.specs.declared.seat.Seat.{Seat}
 use Rattle.rdb_registry.specs.Seats.{Seats, HoldsLatch, seat_in, seat_of, changed, with_hand, with_latches}
-use Rattle.rdb_registry.proofs.RecordLaws.{changed_own, changed_here}
+use Rattle.rdb_registry.proofs.RecordLaws.{changed_here}
 use Rattle.rdb_sight.specs.Versions.{Versions}
-use Rattle.rdb_writes.specs.Changes.{ChangesHand, ChangesLatches, SameCells}
-use Rattle.rdb_writes.specs.Grounds.{Ground, AreWorks, HaveOneHolder, IsLatched, WorksOn, HasPlaces, IsWork, unlogged}
+use Rattle.rdb_writes.specs.Changes.{ChangesHand}
+use Rattle.rdb_writes.specs.Grounds.{Ground, AreWorks, HaveOneHolder, WorksOn, HasPlaces}
 use Rattle.rdb_writes.proofs.ChangeLemmas.{hand_works}
 use Rattle.rdb_writes.proofs.WorkLemmas.{in_its_slot}
 use Rattle.rdb_steps.specs.Kept.{Agrees, IsLawful, aims}
 use Rattle.rdb_steps.specs.Lists.{taken_over}
 use Rattle.rdb_steps.proofs.HandKept.{turned_by}
-use Rattle.rdb_steps.proofs.KeptLemmas.{Turns, holders_turned}
+use Rattle.rdb_steps.proofs.KeptLemmas.{holders_turned}
 use Rattle.rdb_steps.proofs.LatchLemmas.{latches_given_up}
 use Rattle.rdb_steps.proofs.StayLemmas.{lists_stay}
 

@@ -1,5 +1,5 @@
 -- What every step keeps of a World's state, as a connection's newest pair is taken back.
-use Rattle.std.proofs.Common.{◌≡◌, ◌≢◌, ◌<◌, ◌&&◌, ◌||◌, ◌==◌, ◌+◌, ℕ, List, [], length, Bool, true, false, not, cond, Option, Some, None, IsSome, IsSomeAnd, is_some, refl, sym, ap, subst, ◌∙◌, arith, inl, inr}
+use Rattle.std.proofs.Common.{◌≡◌, ◌&&◌, ◌==◌, ◌+◌, ℕ, List, [], length, Bool, true, false, not, cond, Option, Some, None, IsSome, IsSomeAnd, is_some, refl, sym, ap, subst, ◌∙◌}
 use Rattle.std.proofs.lemmas.Bool.{false≢true}
 use Rattle.rdb_base.specs.declared.identity.ConnId.{ConnId}
 use Rattle.rdb_base.specs.declared.identity.Kind.TheVariants as kind
@@ -14,16 +14,16 @@ use Rattle.rdb_registry.specs.declared.hand.Hand.{Hand}
 use Rattle.rdb_registry.specs.declared.seat.Seat.{Seat}
 use Rattle.rdb_registry.specs.declared.seat.Transaction.{Transaction}
 use Rattle.rdb_registry.specs.Registry.{Roll, IsRoll}
-use Rattle.rdb_registry.specs.Seats.{Seats, HoldsLatch, seat_in, seat_of, IsHeld, with_hand}
+use Rattle.rdb_registry.specs.Seats.{Seats, seat_in, seat_of, IsHeld, with_hand}
 use Rattle.rdb_registry.proofs.SlotLemmas.{some_and_of}
 use Rattle.rdb_sight.specs.Versions.{Versions}
 use Rattle.rdb_space.specs.Memory.{RegionCells}
 use Rattle.rdb_transactions.proofs.EditLemmas.{record_after}
-use Rattle.rdb_writes.specs.Grounds.{Ground, AreWorks}
+use Rattle.rdb_writes.specs.Grounds.{AreWorks}
 use Rattle.rdb_writes.specs.Steps.{TakesNewestBack, spans_one_plan}
 use Rattle.rdb_writes.proofs.WorkLemmas.{in_its_slot}
 use Rattle.rdb_steps.specs.Invariant.{IsKept}
-use Rattle.rdb_steps.specs.Kept.{Agrees, IsLawful, OwnAre, aims, is_rolling_back, takes_back}
+use Rattle.rdb_steps.specs.Kept.{Agrees, IsLawful, OwnAre, is_rolling_back, takes_back}
 use Rattle.rdb_steps.specs.Lists.{taken_over}
 use Rattle.rdb_steps.specs.Phases.{IsRollingBack, Rests, RestsIn}
 use Rattle.rdb_steps.specs.States.{ground_in}

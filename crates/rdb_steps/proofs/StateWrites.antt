@@ -1,5 +1,5 @@
 -- What every step keeps of a World's state, as a connection writes the next cell of its plan.
-use Rattle.std.proofs.Common.{◌≡◌, ◌≢◌, ◌<◌, ◌&&◌, ◌||◌, ◌==◌, ◌++◌, ◌∷◌, ℕ, List, [], length, Bool, true, false, not, cond, Option, Some, None, IsSome, IsSomeAnd, IfSome, is_some, option_map, option_and_then, slice_get, drop, refl, sym, ap, subst, ◌∙◌, arith, inl, inr, eqb-true}
+use Rattle.std.proofs.Common.{◌≡◌, ◌<◌, ◌&&◌, ◌||◌, ◌==◌, ◌++◌, ◌∷◌, ℕ, List, [], length, Bool, true, false, not, cond, Option, Some, None, IsSome, IsSomeAnd, IfSome, is_some, option_and_then, slice_get, drop, refl, sym, ap, subst, ◌∙◌, arith, inl, inr, eqb-true}
 use Rattle.std.proofs.lemmas.Bool.{false≢true, ne_eqb}
 use Rattle.rdb_base.specs.declared.identity.ConnId.{ConnId}
 use Rattle.rdb_base.specs.declared.identity.Manager.{Manager}
@@ -21,7 +21,7 @@ use Rattle.rdb_registry.specs.Seats.{Seats, EachSeat, IsHeld, HoldsLatch, seat_i
 use Rattle.rdb_sight.specs.Versions.{Versions}
 use Rattle.rdb_space.specs.Memory.{RegionCells}
 use Rattle.rdb_transactions.proofs.EditLemmas.{record_after, same_seat}
-use Rattle.rdb_writes.specs.Grounds.{Ground, AreWorks}
+use Rattle.rdb_writes.specs.Grounds.{AreWorks}
 use Rattle.rdb_writes.specs.Steps.{WritesNext, spans_one_plan, is_written, ends, ended}
 use Rattle.rdb_writes.proofs.PlanLemmas.{longer_by_one}
 use Rattle.rdb_writes.proofs.WorkLemmas.{in_its_slot}

@@ -8,7 +8,6 @@ use Rattle.rdb_base.specs.declared.identity.Phase.{Phase}
 use Rattle.rdb_base.specs.declared.identity.Phase.TheVariants as phase
 use Rattle.rdb_base.specs.declared.identity.TxId.{TxId}
 use Rattle.rdb_base.specs.declared.journal.Cause.{Cause}
-use Rattle.rdb_base.specs.Operations.{class_of as class_named}
 use Rattle.rdb_schema.specs.declared.schema.Schema.{Schema}
 use Rattle.rdb_pages.specs.declared.cell.CellRef.{CellRef}
 use Rattle.rdb_cells.specs.declared.pairs.Pair.{Pair}
@@ -21,16 +20,16 @@ use Rattle.rdb_registry.specs.declared.seat.Condemned.{Condemned}
 use Rattle.rdb_registry.specs.declared.seat.Seat.{Seat}
 use Rattle.rdb_registry.specs.declared.seat.Transaction.{Transaction}
 use Rattle.rdb_registry.specs.OwnWrites.{header_of}
-use Rattle.rdb_registry.specs.Seats.{Seats, HoldsLatch, seat_in}
+use Rattle.rdb_registry.specs.Seats.{HoldsLatch, seat_in}
 use Rattle.rdb_registry.proofs.SlotLemmas.{some_of, some_and_of}
-use Rattle.rdb_sight.specs.Versions.{Version, Object, Versions, objects_in, chain_of, chain_in, own_version}
+use Rattle.rdb_sight.specs.Versions.{Version, Object, Versions, chain_of, chain_in, own_version}
 use Rattle.rdb_store.specs.Stored.{ref_of}
 use Rattle.rdb_writes.specs.Grounds.{Ground, AreWorks}
 use Rattle.rdb_writes.specs.Steps.{WritesNext, spans_one_plan, is_written, ends, ended}
 use Rattle.rdb_writes.proofs.PlanLemmas.{longer_by_one}
 use Rattle.rdb_writes.proofs.WorkLemmas.{in_its_slot}
 use Rattle.rdb_steps.specs.Invariant.{IsKept, DropsNone}
-use Rattle.rdb_steps.specs.Kept.{Agrees, IsLawful, OwnAre, Owns, aims, is_dropping, is_marked, owns_settled, takes_back, tx_of}
+use Rattle.rdb_steps.specs.Kept.{Agrees, IsLawful, OwnAre, Owns, aims, is_dropping, owns_settled, takes_back, tx_of}
 use Rattle.rdb_steps.specs.Lists.{taken_over}
 use Rattle.rdb_steps.specs.Phases.{IsWriter, IsWriting, Rests, RestsIn}
 use Rattle.rdb_steps.specs.Planned.{PlanIsGood, PlanLeads, header_after, put_header, object_named, same_object}
@@ -39,7 +38,7 @@ use Rattle.rdb_steps.proofs.ListLemmas.{lists_kept, lists_settled, not_written, 
 use Rattle.rdb_steps.proofs.MixLemmas.{Mixes, mix_same, mix_taken}
 use Rattle.rdb_steps.proofs.KeptLemmas.{Turns, ArePlaced, KeepsOthers, kept_turned}
 use Rattle.rdb_steps.proofs.PhaseLemmas.{takes_none_back, aims_spoken}
-use Rattle.rdb_steps.proofs.HandKept.{turned_by, turned_then, some_not, or_first, or_second, some_plan, dropping_unwritten, dropping_idle, some_none, own_same, work_same, owns_same, plan_same, plan_written, own_many, own_single, writing_same, dropping_same}
+use Rattle.rdb_steps.proofs.HandKept.{turned_by, turned_then, some_not, or_first, some_plan, dropping_idle, some_none, own_same, work_same, owns_same, plan_same, plan_written, own_many, own_single, writing_same, dropping_same}
 
 either : {X : Type 0} (b : Bool) (x : X) → cond b x x ≡ x
 either true x = refl

@@ -1,5 +1,5 @@
 -- What each step that touches a cell, or a record's plan, does to a World's state, and what it leaves of the two lists of versions.
-use Rattle.std.specs.Prelude.{◌≡◌, ◌≢◌, ◌+◌, ◌-◌, ◌==◌, ◌&&◌, ◌∷◌, ◌++◌, ℕ, List, [], length, map, slice_set, slice_get, drop, Bool, true, Option, Some, None, is_some, option_and_then, if◌then◌else◌}
+use Rattle.std.specs.Prelude.{◌≡◌, ◌≢◌, ◌+◌, ◌-◌, ◌==◌, ◌&&◌, ◌∷◌, ◌++◌, ℕ, List, [], length, map, slice_set, slice_get, drop, Bool, Option, Some, None, is_some, option_and_then, if◌then◌else◌}
 use Rattle.rdb_base.specs.declared.identity.ConnId.{ConnId}
 use Rattle.rdb_base.specs.declared.identity.Kind.TheVariants as kind
 use Rattle.rdb_base.specs.declared.identity.Manager.{Manager}
@@ -26,7 +26,7 @@ use Rattle.rdb_writes.specs.Steps.{spans_one_plan}
 use Rattle.rdb_steps.specs.declared.state.State.{State}
 use Rattle.rdb_steps.specs.Kept.{tx_of}
 use Rattle.rdb_steps.specs.Lists.{taken_over}
-use Rattle.rdb_steps.specs.Planned.{id_named, object_named}
+use Rattle.rdb_steps.specs.Planned.{object_named}
 use Rattle.rdb_steps.specs.States.{Keeps}
 
 -- whatever versions are settled and aimed at before, afterwards these are
@@ -142,9 +142,10 @@ done_by tx commit chain = map (done_version tx commit) chain
 abbrev pub first_stamped : Option Seat → Versions → Versions → Versions
 first_stamped None settled versions = versions
 first_stamped (Some seat) settled versions = by_own seat.transaction (slice_get seat.hand.own.items 0) where
-    stamped : Transaction → OwnWrite → Option ℕ → Versions
-    stamped t own None = versions
-    stamped t own (Some commit) = with_chain_in versions own.class own.id (done_by (tx_of seat t) commit (chain_in settled own.class own.id))
-    by_own : Option Transaction → Option OwnWrite → Versions
-    by_own (Some t) (Some own) = stamped t own t.mark
-    by_own _ _ = versions
+  stamped : Transaction → OwnWrite → Option ℕ → Versions
+  stamped t own None = versions
+  stamped t own (Some commit) = with_chain_in versions own.class own.id (done_by (tx_of seat t) commit (chain_in settled own.class own.id))
+
+  by_own : Option Transaction → Option OwnWrite → Versions
+  by_own (Some t) (Some own) = stamped t own t.mark
+  by_own _ _ = versions

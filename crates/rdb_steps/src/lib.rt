@@ -5,7 +5,7 @@
 //! | Step              | Function               | Law                                    | Settled                      | Aimed at                     |
 //! |-------------------|------------------------|----------------------------------------|------------------------------|------------------------------|
 //! | a cell of a plan  | `write_work`, `write_drop` | `a_written_cell_leaves_the_lists`  | stay; at last those aimed at | stay                         |
-//! | a pair taken back | –                      | `a_cell_taken_back_leaves_the_settled` | stay                         | no longer spoken of          |
+//! | a pair taken back | `take_newest_back`     | `a_cell_taken_back_leaves_the_settled` | stay                         | no longer spoken of          |
 //! | a stamp           | –                      | `a_stamp_leaves_that_stamp`            | with that stamp              | with that stamp              |
 //! | a page            | `grant`                | `cells_that_come_leave_the_lists`      | stay                         | stay                         |
 //! | latches           | –                      | `latches_leave_the_settled`            | stay                         | stay, or no longer spoken of |

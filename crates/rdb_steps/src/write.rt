@@ -41,7 +41,11 @@ impl<P: Pages> State<P> {
             c,
         );
         if is_last {
-            end_work(&mut self.transactions.registry, self.transactions.manager, c)
+            end_work(
+                &mut self.transactions.registry,
+                self.transactions.manager,
+                c,
+            )
         } else {
             None
         }

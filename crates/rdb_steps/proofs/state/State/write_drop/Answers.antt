@@ -1,4 +1,4 @@
-use Rattle.std.proofs.Common.{◌≡◌, [], refl, sym, ap, ◌∙◌}
+use Rattle.std.proofs.Common.{◌≡◌, []}
 use Rattle.rdb_registry.specs.declared.hand.Hand.{Hand}
 use Rattle.rdb_steps.proofs.StateWrites.{drop_goes_on, drop_ends, has_first, room_mid, writes_one}
 use Rattle.rdb_steps.proofs.state.State.write_drop.Goals as goal
