@@ -1,5 +1,5 @@
 -- What every step keeps of a World's state, as a connection's newest pair is taken back.
-use Rattle.std.proofs.Common.{◌≡◌, ◌&&◌, ◌==◌, ◌+◌, ℕ, List, [], length, Bool, true, false, not, cond, Option, Some, None, IsSome, IsSomeAnd, is_some, refl, sym, ap, subst, ◌∙◌}
+use Rattle.std.proofs.Common.{option_map, ◌≡◌, ◌&&◌, ◌==◌, ◌+◌, ℕ, List, [], length, Bool, true, false, not, cond, Option, Some, None, IsSome, IsSomeAnd, is_some, refl, sym, ap, subst, ◌∙◌}
 use Rattle.std.proofs.lemmas.Bool.{false≢true}
 use Rattle.rdb_base.specs.declared.identity.ConnId.{ConnId}
 use Rattle.rdb_base.specs.declared.identity.Kind.TheVariants as kind
@@ -15,7 +15,7 @@ use Rattle.rdb_registry.specs.declared.seat.Seat.{Seat}
 use Rattle.rdb_registry.specs.declared.seat.Transaction.{Transaction}
 use Rattle.rdb_registry.specs.Registry.{Roll, IsRoll}
 use Rattle.rdb_registry.specs.Seats.{Seats, seat_in, seat_of, IsHeld, with_hand}
-use Rattle.rdb_registry.proofs.SlotLemmas.{some_and_of}
+use Rattle.rdb_registry.proofs.SlotLemmas.{seat_in_other, some_and_of}
 use Rattle.rdb_sight.specs.Versions.{Versions}
 use Rattle.rdb_space.specs.Memory.{RegionCells}
 use Rattle.rdb_transactions.proofs.EditLemmas.{record_after}
@@ -27,7 +27,7 @@ use Rattle.rdb_steps.specs.Kept.{Agrees, IsLawful, OwnAre, is_rolling_back, take
 use Rattle.rdb_steps.specs.Lists.{taken_over}
 use Rattle.rdb_steps.specs.Phases.{IsRollingBack, Rests, RestsIn}
 use Rattle.rdb_steps.specs.States.{ground_in}
-use Rattle.rdb_steps.specs.Steps.{WritesOne, aimed_by_taking_back, forgetting_own}
+use Rattle.rdb_steps.specs.Steps.{OnlySeat, WritesOne, aimed_by_taking_back, forgetting_own}
 use Rattle.rdb_steps.proofs.BackLemmas.{back_kept, own_back, silent}
 use Rattle.rdb_steps.proofs.HandKept.{or_second, turned_by, turned_then}
 use Rattle.rdb_steps.proofs.KeptLemmas.{Turns, ArePlaced, holders_turned}
@@ -146,3 +146,11 @@ module _ (schema : Schema) (manager : Manager) (serials : ℕ) (ids : List ℕ) 
             plan = λ alone live. no_plan;
             all = λ alone live. r.all alone live;
           })
+
+  pub only_back : mid ≡ record roll { seats = mid.seats } → (f : Hand) → OnlySeat roll (record mid { seats = with_hand mid.seats c.slot f }) c
+  only_back same f = record {
+    others = λ i ne.
+        seat_in_other mid.seats c.slot i (option_map (λ (s : Seat). record s { hand = f }) (seat_in mid.seats c.slot)) ne
+        ∙ turns_mid.others i ne;
+    rest = ap (λ (r : Roll). record r { seats = with_hand mid.seats c.slot f }) same;
+  }

@@ -1,5 +1,5 @@
 -- What every step keeps of a World's state, as a connection writes the next cell of its plan.
-use Rattle.std.proofs.Common.{◌≡◌, ◌<◌, ◌&&◌, ◌||◌, ◌==◌, ◌++◌, ◌∷◌, ℕ, List, [], length, Bool, true, false, not, cond, Option, Some, None, IsSome, IsSomeAnd, IfSome, is_some, option_and_then, slice_get, drop, refl, sym, ap, subst, ◌∙◌, arith, inl, inr, eqb-true}
+use Rattle.std.proofs.Common.{option_map, ◌≢◌, ◌≡◌, ◌<◌, ◌&&◌, ◌||◌, ◌==◌, ◌++◌, ◌∷◌, ℕ, List, [], length, Bool, true, false, not, cond, Option, Some, None, IsSome, IsSomeAnd, IfSome, is_some, option_and_then, slice_get, drop, refl, sym, ap, subst, ◌∙◌, arith, inl, inr, eqb-true}
 use Rattle.std.proofs.lemmas.Bool.{false≢true, ne_eqb}
 use Rattle.rdb_base.specs.declared.identity.ConnId.{ConnId}
 use Rattle.rdb_base.specs.declared.identity.Manager.{Manager}
@@ -18,6 +18,7 @@ use Rattle.rdb_registry.specs.declared.own_writes.OwnWrite.{OwnWrite}
 use Rattle.rdb_registry.specs.OwnWrites.{header_of}
 use Rattle.rdb_registry.specs.Registry.{Roll, IsRoll}
 use Rattle.rdb_registry.specs.Seats.{Seats, EachSeat, IsHeld, HoldsLatch, seat_in, seat_of, changed, with_hand, with_latches}
+use Rattle.rdb_registry.proofs.SlotLemmas.{seat_in_other}
 use Rattle.rdb_sight.specs.Versions.{Versions}
 use Rattle.rdb_space.specs.Memory.{RegionCells}
 use Rattle.rdb_transactions.proofs.EditLemmas.{record_after, same_seat}
@@ -29,7 +30,7 @@ use Rattle.rdb_steps.specs.Invariant.{IsKept}
 use Rattle.rdb_steps.specs.Kept.{Agrees, IsLawful, aims, is_dropping, takes_back}
 use Rattle.rdb_steps.specs.Lists.{taken_over}
 use Rattle.rdb_steps.specs.States.{IsFurnished, ground_in}
-use Rattle.rdb_steps.specs.Steps.{EndsWork, Finishes, ForgetsFirst, is_at_last, released, reply_next, reply_to, settled_by_writing, version_at, WritesOne}
+use Rattle.rdb_steps.specs.Steps.{OnlySeat, EndsWork, Finishes, ForgetsFirst, is_at_last, released, reply_next, reply_to, settled_by_writing, version_at, WritesOne}
 use Rattle.rdb_steps.proofs.HandKept.{or_first, or_second, some_plan, turned_by, turned_then, own_same, work_same}
 use Rattle.rdb_steps.proofs.KeptLemmas.{Turns, ArePlaced, holders_turned}
 use Rattle.rdb_steps.proofs.MixLemmas.{taken_again}
@@ -354,3 +355,40 @@ module _ (schema : Schema) (manager : Manager) (serials : ℕ) (ids : List ℕ) 
       let same = work_same manager (length schema.classes) w.seat (ended manager w.written) w.works.rest in
       let had : w.seat.hand.work ≡ Some e.work = sym same ∙ sym (ap (λ (s : Seat). s.hand.work) is) ∙ e.had in
       reply_last last (Some reply) (ap (λ (r : Reply). Some r) e.told ∙ reply_some w.seat.hand.work e.work e.version had e.puts)
+
+  -- all other records stay
+  only_mid : mid ≡ record roll { seats = mid.seats } → OnlySeat roll mid c
+  only_mid same = record {
+    others = (turns_mid schema manager serials ids (ground_in memory roll) (ground_in memory_now mid) c is_last lawful works w settled aimed kept placed known).others;
+    rest = same;
+  }
+
+  -- also where this record changes again
+  only_then : mid ≡ record roll { seats = mid.seats } → (now : Roll) (seats : Seats) → now ≡ record mid { seats = seats } → ((i : ℕ) → i ≢ c.slot → seat_in seats i ≡ seat_in mid.seats i) → OnlySeat roll now c
+  only_then same now seats is others = record {
+    others = λ i ne. ap (λ (r : Roll). seat_in r.seats i) is ∙ others i ne ∙ (only_mid same).others i ne;
+    rest = is ∙ ap (λ (r : Roll). record r { seats = seats }) same ∙ ap (λ (r : Roll). record roll { seats = r.seats }) (sym is);
+  }
+
+  others_hand : (f : Hand) (i : ℕ) → i ≢ c.slot → seat_in (with_hand mid.seats c.slot f) i ≡ seat_in mid.seats i
+  others_hand f i ne = seat_in_other mid.seats c.slot i (option_map (λ (s : Seat). record s { hand = f }) (seat_in mid.seats c.slot)) ne
+
+  others_latch : (f : Hand) (i : ℕ) → i ≢ c.slot → seat_in (changed (with_hand mid.seats c.slot f) c.slot (with_latches 0)) i ≡ seat_in mid.seats i
+  others_latch f i ne =
+      seat_in_other (with_hand mid.seats c.slot f) c.slot i (option_map (with_latches 0) (seat_in (with_hand mid.seats c.slot f) c.slot)) ne ∙ others_hand f i ne
+
+  others_released : (f : Hand) (b : Bool) (i : ℕ) → i ≢ c.slot →
+      seat_in (cond b (changed (with_hand mid.seats c.slot f) c.slot (with_latches 0)) (with_hand mid.seats c.slot f)) i ≡ seat_in mid.seats i
+  others_released f true i ne = others_latch f i ne
+  others_released f false i ne = others_hand f i ne
+
+  pub only_on : mid ≡ record roll { seats = mid.seats } → OnlySeat roll mid c
+  only_on same = only_mid same
+
+  pub only_told : mid ≡ record roll { seats = mid.seats } → (now : Roll) (result : Option Reply) → (result ≡ None → now ≡ mid) → IfSome result (EndsWork manager mid now c) → OnlySeat roll now c
+  only_told same now None stays told = subst (λ (r : Roll). OnlySeat roll r c) (sym (stays refl)) (only_mid same)
+  only_told same now (Some reply) stays e =
+      only_then same now (released manager (with_hand mid.seats c.slot e.hand) c.slot) e.records (λ i ne. others_released e.hand (spans_one_plan manager) i ne)
+
+  pub only_forgot : mid ≡ record roll { seats = mid.seats } → (now : Roll) → ForgetsFirst mid now c → OnlySeat roll now c
+  only_forgot same now e = only_then same now (changed (with_hand mid.seats c.slot e.hand) c.slot (with_latches 0)) e.records (λ i ne. others_latch e.hand i ne)

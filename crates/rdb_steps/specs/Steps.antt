@@ -1,5 +1,5 @@
 -- What each step that touches a cell, or a record's plan, does to a World's state, and what it leaves of the two lists of versions.
-use Rattle.std.specs.Prelude.{◌≡◌, ◌≢◌, ◌+◌, ◌-◌, ◌==◌, ◌&&◌, ◌∷◌, ◌++◌, ℕ, List, [], length, map, slice_set, slice_get, drop, Bool, Option, Some, None, is_some, option_and_then, if◌then◌else◌}
+use Rattle.std.specs.Prelude.{◌≡◌, ◌≢◌, ◌+◌, ◌-◌, ◌==◌, ◌&&◌, ◌∷◌, ◌++◌, ℕ, List, [], length, map, slice_get, drop, Bool, Option, Some, None, is_some, option_and_then, if◌then◌else◌}
 use Rattle.rdb_base.specs.declared.identity.ConnId.{ConnId}
 use Rattle.rdb_base.specs.declared.identity.Kind.TheVariants as kind
 use Rattle.rdb_base.specs.declared.identity.Manager.{Manager}
@@ -18,7 +18,7 @@ use Rattle.rdb_registry.specs.declared.seat.Seat.{Seat}
 use Rattle.rdb_registry.specs.declared.seat.Transaction.{Transaction}
 use Rattle.rdb_registry.specs.OwnWrites.{header_of}
 use Rattle.rdb_registry.specs.Registry.{Roll}
-use Rattle.rdb_registry.specs.Seats.{Seats, seat_of, changed, with_hand, with_latches}
+use Rattle.rdb_registry.specs.Seats.{Seats, seat_in, seat_of, changed, with_hand, with_latches}
 use Rattle.rdb_sight.specs.Sight.{is_own}
 use Rattle.rdb_sight.specs.Versions.{Version, Versions, chain_in, with_chain_in}
 use Rattle.rdb_space.specs.Memory.{RegionCells, image_of, class_of}
@@ -45,14 +45,16 @@ pub record WritesOne (before after : RegionCells) : Type 0 where
   pub classes : (n : ℕ) → class_of after n ≡ class_of before n
   pub owners : after.owners ≡ before.owners
 
--- A connection's record is another; all other records, the journal, and all that isn't memory or a claim stay.
-pub record OnRecord {P : Type 0} (before after : State P) (c : ConnId) (seat now : Seat) : Type 0 where
-  pub held : seat_at before c ≡ Some seat
-  pub seats : after.transactions.registry.seats ≡ slice_set before.transactions.registry.seats c.slot (Some now)
-  pub registry : after.transactions.registry ≡ record before.transactions.registry { seats = after.transactions.registry.seats }
-  pub transactions : after.transactions
-      ≡ record before.transactions { registry = after.transactions.registry; claims = after.transactions.claims }
-  pub rest : after ≡ record before { memory = after.memory; transactions = after.transactions }
+-- no record changes but that of a connection, nor what stands beside the records
+pub record OnlySeat (before after : Roll) (c : ConnId) : Type 0 where
+  pub others : (slot : ℕ) → slot ≢ c.slot → seat_in after.seats slot ≡ seat_in before.seats slot
+  pub rest : after ≡ record before { seats = after.seats }
+
+-- A connection's record changes, and maybe the memory: all other records, the journal and what is claimed of it, and the counters stay.
+pub record OnlyRecord {P : Type 0} (before after : State P) (c : ConnId) : Type 0 where
+  pub seats : OnlySeat before.transactions.registry after.transactions.registry c
+  pub rest : after
+      ≡ record before { memory = after.memory; transactions = record before.transactions { registry = after.transactions.registry } }
 
 -- the next cell of its plan is the last one
 abbrev pub is_at_last : Hand → Bool

@@ -9,7 +9,7 @@ ghost use Rattle.rdb_registry.specs.Seats.{IsHeld, seat_of};
 ghost use Rattle.rdb_steps.specs.Kept.{is_dropping};
 ghost use Rattle.rdb_steps.specs.Lists.{the_aimed};
 ghost use Rattle.rdb_steps.specs.States.{IsKeptSomehow, IsWhole};
-ghost use Rattle.rdb_steps.specs.Steps.{KeepsAs, WritesOne, EndsWork, ForgetsFirst, seat_at, settled_by_writing, reply_next, version_at};
+ghost use Rattle.rdb_steps.specs.Steps.{KeepsAs, OnlyRecord, WritesOne, EndsWork, ForgetsFirst, seat_at, settled_by_writing, reply_next, version_at};
 
 use crate::finish::finish;
 use crate::state::State;
@@ -32,6 +32,7 @@ impl<P: Pages> State<P> {
         ensures kept { KeepsAs self.old self.new (settled_by_writing self.old.transactions.manager (seat_at self.old c)) the_aimed }
         ensures reply { IsSomeAnd (seat_at self.old c) (λ seat. result ≡ reply_next seat.hand) }
         ensures cell { WritesOne self.old.memory self.new.memory }
+        ensures record { OnlyRecord self.old self.new c }
     {
         self.transactions.registry.sound();
         let is_last = write_next(
@@ -59,6 +60,7 @@ impl<P: Pages> State<P> {
         requires dropping { IsSomeAnd (seat_at self.old c) (λ seat. is_dropping seat.hand ≡ true) }
         ensures kept { KeepsAs self.old self.new (settled_by_writing self.old.transactions.manager (seat_at self.old c)) the_aimed }
         ensures cell { WritesOne self.old.memory self.new.memory }
+        ensures record { OnlyRecord self.old self.new c }
     {
         self.transactions.registry.sound();
         let is_last = write_next(

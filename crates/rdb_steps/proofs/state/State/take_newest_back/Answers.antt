@@ -1,4 +1,5 @@
-use Rattle.rdb_steps.proofs.StateBacks.{back_one, rolled_back}
+use Rattle.std.proofs.Common.{refl}
+use Rattle.rdb_steps.proofs.StateBacks.{only_back, back_one, rolled_back}
 use Rattle.rdb_steps.proofs.state.State.take_newest_back.Goals as goal
 
 pub returns-clause-kept : goal.returns-clause-kept
@@ -13,3 +14,12 @@ returns-clause-cell g c =
     let s = c.args.self.now in
     back_one s.schema s.transactions.manager s.counters.serials s.counters.ids.items s.memory c.take_newest_back.new.cells s.transactions.registry c.take_newest_back.new.registry
     c.args.c c.requires.whole.lawful c.sound.ensures c.take_newest_back.ensures.back c.take_newest_back.ensures.works c.take_newest_back.ensures.owners
+
+pub returns-clause-record : goal.returns-clause-record
+returns-clause-record g c =
+    let s = c.args.self.now in
+    record {
+      seats = only_back s.schema s.transactions.manager s.counters.serials s.counters.ids.items s.memory c.take_newest_back.new.cells s.transactions.registry c.take_newest_back.new.registry
+          c.args.c c.requires.whole.lawful c.sound.ensures c.take_newest_back.ensures.back c.take_newest_back.ensures.works c.take_newest_back.ensures.roll c.forget_if_taken_back.new.hand;
+      rest = refl;
+    }
