@@ -8,3 +8,5 @@ pub mod OwnLemmas
 pub mod PhaseLemmas
 pub mod DebtLemmas
 pub mod StoreLemmas
+pub mod MixLemmas
+pub mod KeptLemmas
