@@ -18,7 +18,7 @@ use Rattle.rdb_writes.specs.Steps.{spans_one_plan, is_written}
 use Rattle.rdb_writes.proofs.ChangeLemmas.{by_holder}
 use Rattle.rdb_steps.specs.Invariant.{IsKept}
 use Rattle.rdb_steps.specs.Kept.{IsLawful, Agrees, HasNoVersion, IsUnaimed, aims, tx_of}
-use Rattle.rdb_steps.specs.Moves.{AreInPlace}
+use Rattle.rdb_steps.specs.Moves.{ArePlaced}
 use Rattle.rdb_steps.proofs.ListLemmas.{holds_same}
 use Rattle.rdb_steps.proofs.RestLemmas.{no_pairs, latched_writer, empty_without_plan, live_aimer}
 use Rattle.rdb_steps.proofs.TakenLemmas.{beyond}
@@ -86,7 +86,7 @@ alike_there schema manager g settled_list aimed lawful one agrees slot seat ther
     (agrees.stands.each class within))
 
 -- Of the transaction of a record without plan and pair no version is aimed at where none is settled.
-module _ (schema : Schema) (manager : Manager) (serials : ℕ) (ids : List ℕ) (g : Ground) (settled_list aimed : Versions) (lawful : IsLawful schema) (in_place : AreInPlace g.seats) (kept : IsKept schema manager serials ids g settled_list aimed) (slot : ℕ) (seat : Seat) (there : seat_in g.seats slot ≡ Some seat) (plan : seat.hand.plan.pairs ≡ []) (undo : seat.hand.undo.pairs ≡ []) (none : HasNoVersion seat settled_list) (t : Transaction) (open_one : seat.transaction ≡ Some t) where
+module _ (schema : Schema) (manager : Manager) (serials : ℕ) (ids : List ℕ) (g : Ground) (settled_list aimed : Versions) (lawful : IsLawful schema) (in_place : ArePlaced g.seats) (kept : IsKept schema manager serials ids g settled_list aimed) (slot : ℕ) (seat : Seat) (there : seat_in g.seats slot ≡ Some seat) (plan : seat.hand.plan.pairs ≡ []) (undo : seat.hand.undo.pairs ≡ []) (none : HasNoVersion seat settled_list) (t : Transaction) (open_one : seat.transaction ≡ Some t) where
   as_settled : (class id : ℕ) → objects_in aimed class ≡ objects_in settled_list class → own_version (tx_of seat t) (chain_in aimed class id) ≡ None
   as_settled class id same = ap (λ (objects : List Object). own_version (tx_of seat t) (chain_of objects id)) same ∙ none t open_one class id
 

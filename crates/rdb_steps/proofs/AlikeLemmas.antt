@@ -15,9 +15,9 @@ use Rattle.rdb_registry.specs.declared.seat.Transaction.{Transaction}
 use Rattle.rdb_registry.specs.Seats.{HoldsLatch, seat_in}
 use Rattle.rdb_sight.specs.Versions.{Versions, objects_in}
 use Rattle.rdb_writes.specs.Grounds.{Ground, WorksOn, HasPlaces, IsLatched}
-use Rattle.rdb_steps.specs.Invariant.{IsKept}
+use Rattle.rdb_steps.specs.Invariant.{IsKept, DropsNone}
 use Rattle.rdb_steps.specs.Kept.{IsLawful, HoldsClass, Agrees, OwnAre, IsUnaimed, AimsAt, aims}
-use Rattle.rdb_steps.specs.Moves.{ChangesSeat, KeepsAll, TellsAlone}
+use Rattle.rdb_steps.specs.Moves.{ChangesSeat, KeptByBoth, TellsAlone}
 use Rattle.rdb_steps.specs.Phases.{Rests, RestsIn}
 use Rattle.rdb_steps.specs.Planned.{PlanIsGood, PlanLeads}
 use Rattle.rdb_steps.proofs.MoveLemmas.{Replaces, changes_replace, changed_there, of_one, each_now, others_stay, works_after, one_after, single_after, agrees_same}
@@ -66,8 +66,8 @@ module _ (schema : Schema) (manager : Manager) (before after : Ground) (slot : �
 
   -- both lists stay where its transaction does, and what the phase and the own writes say holds still
   pub alike_kept : now.conn ≡ seat.conn → now.transaction ≡ seat.transaction → (serials : ℕ) (ids : List ℕ) (settled aimed : Versions) → IsKept schema manager serials ids before settled aimed →
-      OwnAre manager now settled aimed → PlanIsGood manager now settled aimed → Rests manager (length schema.classes) now → IsKept schema manager serials ids after settled aimed
-  alike_kept conn transaction serials ids settled aimed kept own good rests = record {
+      OwnAre manager now settled aimed → PlanIsGood manager now settled aimed → DropsNone manager now → Rests manager (length schema.classes) now → IsKept schema manager serials ids after settled aimed
+  alike_kept conn transaction serials ids settled aimed kept own good drops rests = record {
     agrees = agrees_alike settled aimed kept.agrees;
     one_holder =
         one_after before after slot (Some seat) (Some now) r kept.one_holder
@@ -81,6 +81,9 @@ module _ (schema : Schema) (manager : Manager) (before after : Ground) (slot : �
     plans =
         each_now before after slot (Some seat) (Some now) r (λ i s. PlanIsGood manager s settled aimed) (λ i s. PlanIsGood manager s settled aimed) kept.plans (λ i s other at had. had)
         (of_one (λ (s : Seat). PlanIsGood manager s settled aimed) now good);
+    drops =
+        each_now before after slot (Some seat) (Some now) r (λ i s. DropsNone manager s) (λ i s. DropsNone manager s) kept.drops (λ i s other at had. had)
+        (of_one (λ (s : Seat). DropsNone manager s) now drops);
     rests =
         each_now before after slot (Some seat) (Some now) r (λ i s. Rests manager (length schema.classes) s) (λ i s. Rests manager (length schema.classes) s) kept.rests (λ i s other at had. had)
         (of_one (λ (s : Seat). Rests manager (length schema.classes) s) now rests);
@@ -103,7 +106,7 @@ told_owns manager seat now settled aimed own = record { are_settled = own.are_se
 told_plans : (manager : Manager) (seat now : Seat) (settled aimed : Versions) → PlanIsGood manager seat settled aimed → PlanIsGood manager (told seat now) settled aimed
 told_plans manager seat now settled aimed good speaks unwritten =
     let leads = good speaks unwritten in
-    record { own = leads.own; others = leads.others; drop = leads.drop }
+    record { own = leads.own; others = leads.others; drop = leads.drop; first = leads.first }
 
 told_rests : (manager : Manager) (classes : ℕ) (seat now : Seat) (p : Phase) → (p ≡ phase.Idle → now.hand.done.items ≡ []) → RestsIn manager classes seat p → RestsIn manager classes (told seat now) p
 told_rests manager classes seat now phase.Idle none r = record {
@@ -120,7 +123,7 @@ told_rests manager classes seat now (phase.Running kind.ReadOnly) none r = recor
   cause = r.cause;
 }
 told_rests manager classes seat now (phase.Running kind.ReadWrite) none r = record { writer = r.writer; work = r.work; cause = r.cause; plan = r.plan; undo = r.undo; latches = r.latches }
-told_rests manager classes seat now phase.Writing none r = record { writer = r.writer; cause = r.cause; work = r.work; one = r.one; undo = r.undo; all = r.all }
+told_rests manager classes seat now phase.Writing none r = record { writer = r.writer; cause = r.cause; work = r.work; one = r.one; undo = r.undo; latch = r.latch; unplanned = r.unplanned; all = r.all }
 told_rests manager classes seat now phase.RollingBack none r = record {
   writer = r.writer;
   work = r.work;
@@ -135,7 +138,7 @@ told_rests manager classes seat now phase.Stamping none r = record { writer = r.
 told_rests manager classes seat now phase.Condemned none r = absurd r
 told_rests manager classes seat now phase.Absent none r = absurd r
 
-pub told_kept : (schema : Schema) (manager : Manager) (before after : Ground) (c : ConnId) (seat : Seat) (change : Seat → Seat) → IsLawful schema → ChangesSeat before after c seat change → TellsAlone seat (change seat) → KeepsAll schema manager before after
+pub told_kept : (schema : Schema) (manager : Manager) (before after : Ground) (c : ConnId) (seat : Seat) (change : Seat → Seat) → IsLawful schema → ChangesSeat before after c seat change → TellsAlone seat (change seat) → KeptByBoth schema manager before after
 told_kept schema manager before after c seat change lawful changes tells serials ids settled aimed kept =
     let it : Replaces before after c.slot (Some seat) (Some (told seat (change seat))) =
     subst (λ (x : Seat). Replaces before after c.slot (Some seat) (Some x)) tells.rest (changes_replace before after c seat change changes) in
@@ -144,4 +147,5 @@ told_kept schema manager before after c seat change lawful changes tells serials
     (record { latches = refl; undo = refl; plan = refl; aims = refl }) lawful refl refl serials ids settled aimed kept
     (told_owns manager seat (change seat) settled aimed (kept.own c.slot seat it.held))
     (told_plans manager seat (change seat) settled aimed (kept.plans c.slot seat it.held))
+    (kept.drops c.slot seat it.held)
     (told_rests manager (length schema.classes) seat (change seat) seat.hand.phase tells.idle (kept.rests c.slot seat it.held))

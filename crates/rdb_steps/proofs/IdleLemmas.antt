@@ -16,16 +16,16 @@ use Rattle.rdb_registry.specs.Seats.{Seats, HoldsLatch, IsNew, seat_in}
 use Rattle.rdb_sight.specs.Versions.{Version, Versions, objects_in, chain_in}
 use Rattle.rdb_writes.specs.Changes.{Comes, Goes}
 use Rattle.rdb_writes.specs.Grounds.{Ground, WorksOn, HasPlaces, logged_in}
-use Rattle.rdb_steps.specs.Invariant.{IsKept}
+use Rattle.rdb_steps.specs.Invariant.{IsKept, DropsNone}
 use Rattle.rdb_steps.specs.Kept.{IsLawful, HasNoVersion, IsUnaimed, OwnAre, aims}
-use Rattle.rdb_steps.specs.Moves.{ChangesSeat, AreInPlace, IsClean, IsOver, KeepsAll}
+use Rattle.rdb_steps.specs.Moves.{ChangesSeat, ArePlaced, IsClean, IsOver, KeptByBoth}
 use Rattle.rdb_steps.specs.Phases.{IsIdle, Rests, RestsIn}
 use Rattle.rdb_steps.specs.Planned.{PlanIsGood}
 use Rattle.rdb_steps.specs.Stamped.{IsOpen}
 use Rattle.rdb_steps.proofs.AimLemmas.{alike_there, none_aimed}
 use Rattle.rdb_steps.proofs.MoveLemmas.{Replaces, changes_replace, of_one, of_none, each_now, others_stay, works_after, one_after, single_after, agrees_same}
 use Rattle.rdb_steps.proofs.OpenLemmas.{named, stamped_without, unnamed}
-use Rattle.rdb_steps.proofs.RestLemmas.{no_latch, good_without_plan, none_settled}
+use Rattle.rdb_steps.proofs.RestLemmas.{no_latch, good_without_plan, drops_none, none_settled}
 
 -- a record without plan and pair works nowhere, and has places enough
 pub works_nowhere : (hand : Hand) → hand.undo.pairs ≡ [] → hand.plan.pairs ≡ [] → (n : ℕ) → ¬ WorksOn hand n
@@ -82,6 +82,9 @@ module _ (schema : Schema) (manager : Manager) (before after : Ground) (slot : �
     plans =
         each_now before after slot was now r (λ i s. PlanIsGood manager s settled aimed) (λ i s. PlanIsGood manager s settled aimed) kept.plans (λ i s other there good. good)
         (λ s is. good_without_plan manager s settled aimed (lies s is).idle.rest.plan);
+    drops =
+        each_now before after slot was now r (λ i s. DropsNone manager s) (λ i s. DropsNone manager s) kept.drops (λ i s other there drops. drops)
+        (λ s is. drops_none manager s (lies s is).idle.rest.plan);
     rests =
         each_now before after slot was now r (λ i s. Rests manager (length schema.classes) s) (λ i s. Rests manager (length schema.classes) s) kept.rests (λ i s other there rests. rests)
         (λ s is. subst (λ (p : Phase). RestsIn manager (length schema.classes) s p) (sym (lies s is).phase) (lies s is).idle);
@@ -92,7 +95,7 @@ module _ (schema : Schema) (manager : Manager) (before after : Ground) (slot : �
   }
 
 -- a connection comes
-pub comes_kept : (schema : Schema) (manager : Manager) (before after : Ground) (c : ConnId) (seat : Seat) → IsLawful schema → Comes before after c.slot seat → IsNew c seat → KeepsAll schema manager before after
+pub comes_kept : (schema : Schema) (manager : Manager) (before after : Ground) (c : ConnId) (seat : Seat) → IsLawful schema → Comes before after c.slot seat → IsNew c seat → KeptByBoth schema manager before after
 comes_kept schema manager before after c seat lawful comes new serials ids settled aimed kept =
     idle_kept schema manager before after c.slot None (Some seat) (record { cells = comes.cells; held = comes.free; records = comes.records }) lawful
     (of_one LiesIdle seat (record {
@@ -117,8 +120,8 @@ comes_kept schema manager before after c seat lawful comes new serials ids settl
         cc
 
 -- a transaction ends of which nothing is left, or its connection goes
-module _ (schema : Schema) (manager : Manager) (before after : Ground) (slot : ℕ) (seat : Seat) (now : Option Seat) (r : Replaces before after slot (Some seat) now) (lawful : IsLawful schema) (lies : (s : Seat) → now ≡ Some s → LiesIdle s) (in_place : AreInPlace before.seats) (clean : IsClean seat) where
-  pub clean_kept : KeepsAll schema manager before after
+module _ (schema : Schema) (manager : Manager) (before after : Ground) (slot : ℕ) (seat : Seat) (now : Option Seat) (r : Replaces before after slot (Some seat) now) (lawful : IsLawful schema) (lies : (s : Seat) → now ≡ Some s → LiesIdle s) (in_place : ArePlaced before.seats) (clean : IsClean seat) where
+  pub clean_kept : KeptByBoth schema manager before after
   clean_kept serials ids settled aimed kept =
       let no_settled = none_settled manager seat settled aimed (kept.own slot seat r.held) clean.own in
       let no_aimed : HasNoVersion seat aimed = λ t open_one class id.
@@ -130,12 +133,12 @@ module _ (schema : Schema) (manager : Manager) (before after : Ground) (slot : �
       (unnamed before.seats slot seat r.held settled no_settled)
       (unnamed before.seats slot seat r.held aimed no_aimed)
 
-pub goes_kept : (schema : Schema) (manager : Manager) (before after : Ground) (slot : ℕ) (seat : Seat) → IsLawful schema → AreInPlace before.seats → Goes before after slot seat → IsClean seat → KeepsAll schema manager before after
+pub goes_kept : (schema : Schema) (manager : Manager) (before after : Ground) (slot : ℕ) (seat : Seat) → IsLawful schema → ArePlaced before.seats → Goes before after slot seat → IsClean seat → KeptByBoth schema manager before after
 goes_kept schema manager before after slot seat lawful in_place goes clean =
     clean_kept schema manager before after slot seat None (record { cells = goes.cells; held = goes.held; records = goes.records }) lawful (of_none LiesIdle) in_place clean
 
-pub ends_kept : (schema : Schema) (manager : Manager) (before after : Ground) (c : ConnId) (seat : Seat) (change : Seat → Seat) → IsLawful schema → AreInPlace before.seats → ChangesSeat before after c seat change → IsClean seat →
-    IsOver seat (change seat) → KeepsAll schema manager before after
+pub ends_kept : (schema : Schema) (manager : Manager) (before after : Ground) (c : ConnId) (seat : Seat) (change : Seat → Seat) → IsLawful schema → ArePlaced before.seats → ChangesSeat before after c seat change → IsClean seat →
+    IsOver seat (change seat) → KeptByBoth schema manager before after
 ends_kept schema manager before after c seat change lawful in_place changes clean over =
     clean_kept schema manager before after c.slot seat (Some (change seat)) (changes_replace before after c seat change changes) lawful
     (of_one LiesIdle (change seat) (record { phase = over.phase; idle = over.idle })) in_place clean

@@ -10,3 +10,15 @@ pub mod DebtLemmas
 pub mod StoreLemmas
 pub mod MixLemmas
 pub mod KeptLemmas
+pub mod OwnVersions
+pub mod TakenLemmas
+pub mod OpenLemmas
+pub mod MoveLemmas
+pub mod RestLemmas
+pub mod AimLemmas
+pub mod IdleLemmas
+pub mod ClosedLemmas
+pub mod AlikeLemmas
+pub mod WithoutLemmas
+pub mod MarkLemmas
+pub mod BeginLemmas

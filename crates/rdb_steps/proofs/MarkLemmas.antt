@@ -20,10 +20,10 @@ use Rattle.rdb_transactions.specs.Records.{becomes_marked}
 use Rattle.rdb_writes.specs.Changes.{ChangesHand}
 use Rattle.rdb_writes.specs.Grounds.{Ground, WorksOn, IsWork, IsLatched, HaveOneHolder}
 use Rattle.rdb_writes.specs.Steps.{spans_one_plan, is_written}
-use Rattle.rdb_steps.specs.Invariant.{IsKept}
+use Rattle.rdb_steps.specs.Invariant.{IsKept, DropsNone}
 use Rattle.rdb_steps.specs.Kept.{IsLawful, Agrees, OwnAre, Owns, aims, is_dropping, is_marked, is_rolling_back, owns_settled, takes_back, tx_of}
 use Rattle.rdb_steps.specs.Lists.{taken_over}
-use Rattle.rdb_steps.specs.Moves.{ChangesSeat, KeepsSettling}
+use Rattle.rdb_steps.specs.Moves.{ChangesSeat, KeptBySettling}
 use Rattle.rdb_steps.specs.Phases.{Rests, RestsIn, IsBetween, IsStamping}
 use Rattle.rdb_steps.specs.Planned.{PlanIsGood}
 use Rattle.rdb_steps.proofs.AlikeLemmas.{agrees_alike}
@@ -32,7 +32,7 @@ use Rattle.rdb_steps.proofs.IdleLemmas.{has_places}
 use Rattle.rdb_steps.proofs.ListLemmas.{taken_free, held_or_not}
 use Rattle.rdb_steps.proofs.MoveLemmas.{Replaces, changes_replace, changed_there, of_one, each_now, others_stay, one_after, single_after}
 use Rattle.rdb_steps.proofs.OpenLemmas.{HasNumber, stamped_still}
-use Rattle.rdb_steps.proofs.RestLemmas.{HasWriter, writer_of, no_latch, or_first, or_second, plan_written, good_without_plan}
+use Rattle.rdb_steps.proofs.RestLemmas.{HasWriter, writer_of, no_latch, or_first, or_second, plan_written, drops_none, good_without_plan}
 use Rattle.rdb_steps.proofs.TakenLemmas.{taken_drawn, taken_stamped, taken_none, taken_all}
 use Rattle.rdb_steps.proofs.WithoutLemmas.{other_owns, other_plans}
 
@@ -149,7 +149,7 @@ module _ (schema : Schema) (manager : Manager) (before after : Ground) (c : Conn
     latches = λ spans. (between.latches live).0 spans;
   }
 
-  pub marked_kept : KeepsSettling schema manager before after seat
+  pub marked_kept : KeptBySettling schema manager before after seat
   marked_kept serials ids settled aimed kept = record {
     agrees = marked_agrees settled aimed kept.agrees kept.one_holder between r.held;
     one_holder =
@@ -169,6 +169,9 @@ module _ (schema : Schema) (manager : Manager) (before after : Ground) (c : Conn
         (λ i s other at had. other_plans manager s settled aimed (taken_over seat settled aimed) aimed (same_settled i s other at) (λ t open_one class within. refl) had)
         (of_one (λ (s : Seat). PlanIsGood manager s (taken_over seat settled aimed) aimed) (becomes_marked commit seat)
         (good_without_plan manager (becomes_marked commit seat) (taken_over seat settled aimed) aimed (between.plan live)));
+    drops =
+        each_now before after c.slot (Some seat) (Some (becomes_marked commit seat)) r (λ i s. DropsNone manager s) (λ i s. DropsNone manager s) kept.drops (λ i s other at had. had)
+        (of_one (λ (s : Seat). DropsNone manager s) (becomes_marked commit seat) (drops_none manager (becomes_marked commit seat) (between.plan live)));
     rests =
         each_now before after c.slot (Some seat) (Some (becomes_marked commit seat)) r (λ i s. Rests manager (length schema.classes) s) (λ i s. Rests manager (length schema.classes) s) kept.rests (λ i s other at had. had)
         (of_one (λ (s : Seat). Rests manager (length schema.classes) s) (becomes_marked commit seat) (marked_rests between writer));

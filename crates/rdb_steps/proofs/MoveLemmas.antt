@@ -62,7 +62,7 @@ module _ (before after : Ground) (slot : ℕ) (was now : Option Seat) (r : Repla
   pub others_stay : (i : ℕ) → i ≢ slot → seat_in after.seats i ≡ seat_in before.seats i
   others_stay i other = ap (λ (seats : Seats). seat_in seats i) r.records ∙ seat_in_other before.seats slot i now other
 
-  there_now : (i : ℕ) (s : Seat) → i ≡ slot → seat_in after.seats i ≡ Some s → now ≡ Some s
+  pub there_now : (i : ℕ) (s : Seat) → i ≡ slot → seat_in after.seats i ≡ Some s → now ≡ Some s
   there_now i s same there =
       written_slot before.seats slot now s (sym (ap (λ (seats : Seats). seat_in seats slot) r.records) ∙ sym (ap (seat_in after.seats) same) ∙ there)
 
@@ -128,18 +128,18 @@ module _ (before after : Ground) (slot : ℕ) (was now : Option Seat) (r : Repla
       ]
 
   module _ (schema : Schema) (manager : Manager) (lawful : IsLawful schema) (settled_list aimed : Versions) (agrees : Agrees schema manager before settled_list aimed) where
-    settled_stands : logged_in now ≡ logged_in was → (class : ℕ) → class < length schema.classes → HoldsClass schema after (settled_image after) class (objects_in settled_list class)
+    pub settled_stands : logged_in now ≡ logged_in was → (class : ℕ) → class < length schema.classes → HoldsClass schema after (settled_image after) class (objects_in settled_list class)
     settled_stands same class within =
         holds_same schema lawful before after (settled_image before) (settled_image after) class (objects_in settled_list class) within r.cells.classes
         (λ n of. settled_stays same n) (agrees.stands.each class within)
 
-    aims_after : (s : Seat) (class : ℕ) → class < length schema.classes → (objects : List Object) → AimsAt schema before s class objects → AimsAt schema after s class objects
+    pub aims_after : (s : Seat) (class : ℕ) → class < length schema.classes → (objects : List Object) → AimsAt schema before s class objects → AimsAt schema after s class objects
     aims_after s class within objects holds =
         holds_same schema lawful before after (aimed_image before s.hand) (aimed_image after s.hand) class objects within r.cells.classes
         (λ n of. ap (first_of (content s.hand.plan.pairs n)) (r.cells.image n)) holds
 
     -- where nobody's aims are spoken of now, and this record's weren't, nobody's were
-    unaimed_before : (class : ℕ) → IsUnaimed manager after class → ((s : Seat) → was ≡ Some s → HoldsLatch s class → aims manager s ≡ false) → IsUnaimed manager before class
+    pub unaimed_before : (class : ℕ) → IsUnaimed manager after class → ((s : Seat) → was ≡ Some s → HoldsLatch s class → aims manager s ≡ false) → IsUnaimed manager before class
     unaimed_before class unaimed own i s there held = elim (which i slot) [
       | inl same ↦ own s (there_before i s same there) held
       | inr other ↦ unaimed i s (others_stay i other ∙ there) held

@@ -20,6 +20,7 @@ use Rattle.rdb_registry.proofs.SlotLemmas.{some_and_of}
 use Rattle.rdb_sight.specs.Versions.{Versions, chain_in, own_version}
 use Rattle.rdb_store.specs.Stored.{ref_of}
 use Rattle.rdb_writes.specs.Steps.{spans_one_plan, is_written}
+use Rattle.rdb_steps.specs.Invariant.{DropsNone}
 use Rattle.rdb_steps.specs.Kept.{OwnAre, Owns, HasNoVersion, aims, is_dropping, is_marked, is_rolling_back, owns_settled, takes_back, tx_of}
 use Rattle.rdb_steps.specs.Phases.{Rests, RestsIn, IsWriter}
 use Rattle.rdb_steps.specs.Planned.{PlanIsGood}
@@ -39,6 +40,10 @@ no_latch seat class none held = let zero_bit : bit_at seat.latches class ≡ 0 =
 -- without a plan there is nothing to lead anywhere
 pub good_without_plan : (manager : Manager) (seat : Seat) (settled aimed : Versions) → seat.hand.plan.pairs ≡ [] → PlanIsGood manager seat settled aimed
 good_without_plan manager seat settled aimed none speaks unwritten = absurd (false≢true (sym unwritten ∙ plan_written seat.hand none))
+
+-- nor is anything dropped
+pub drops_none : (manager : Manager) (seat : Seat) → seat.hand.plan.pairs ≡ [] → DropsNone manager seat
+drops_none manager seat none single = ap (λ (b : Bool). not b && is_none seat.hand.work) (plan_written seat.hand none)
 
 pub or_first : (a b : Bool) → a ≡ true → (a || b) ≡ true
 or_first true b e = refl

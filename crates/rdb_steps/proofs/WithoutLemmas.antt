@@ -23,10 +23,10 @@ use Rattle.rdb_store.specs.Stored.{ref_of}
 use Rattle.rdb_transactions.specs.Records.{rolls_back}
 use Rattle.rdb_writes.specs.Grounds.{Ground, WorksOn, HasPlaces, IsLatched, IsWork}
 use Rattle.rdb_writes.specs.Steps.{spans_one_plan, is_written}
-use Rattle.rdb_steps.specs.Invariant.{IsKept}
+use Rattle.rdb_steps.specs.Invariant.{IsKept, DropsNone}
 use Rattle.rdb_steps.specs.Kept.{IsLawful, OwnAre, Owns, HasNoVersion, aims, is_dropping, is_marked, owns_settled, takes_back, tx_of}
 use Rattle.rdb_steps.specs.Lists.{the_settled, taken_over}
-use Rattle.rdb_steps.specs.Moves.{ChangesSeat, Keeps, KeepsWithout, aimed_without}
+use Rattle.rdb_steps.specs.Moves.{ChangesSeat, KeptBy, KeptByGivingUp, aimed_without}
 use Rattle.rdb_steps.specs.Phases.{Rests, RestsIn, IsBetween, IsWriting}
 use Rattle.rdb_steps.specs.Planned.{PlanIsGood, PlanLeads, IsWithin, all_but}
 use Rattle.rdb_steps.proofs.AlikeLemmas.{AreAlike, alike_kept}
@@ -77,6 +77,7 @@ other_plans manager s settled aimed settled_now aimed_now same same_aimed good s
           ap (λ (objects : List Object). all_but (tx_of s t) (chain_of objects id)) (same_aimed t open_one class (λ too. held))
           ∙ leads.drop spans dropping t open_one class id held
           ∙ sym (ap (λ (objects : List Object). all_but (tx_of s t) (chain_of objects id)) (same t open_one class));
+      first = leads.first;
     }
 
 -- what a record owns that takes back, by what it owned
@@ -138,10 +139,11 @@ pub record GivesUpAims (manager : Manager) (classes : ℕ) (seat now : Seat) : T
   pub planless : aims manager now ≡ true → is_written now.hand ≡ false → ⊥
   pub taking : takes_back manager now ≡ true ⊎ (spans_one_plan manager ≡ true)
   pub works : (g : Ground) → IsWork g seat → IsWork g now
+  pub drops : DropsNone manager now
   pub rests : Rests manager classes now
 
 module _ (schema : Schema) (manager : Manager) (before after : Ground) (slot : ℕ) (seat now : Seat) (r : Replaces before after slot (Some seat) (Some now)) (there : seat_in after.seats slot ≡ Some now) (lawful : IsLawful schema) (gives_up : GivesUpAims manager (length schema.classes) seat now) where
-  pub without_kept : KeepsWithout schema manager before after seat
+  pub without_kept : KeptByGivingUp schema manager before after seat
   without_kept serials ids settled aimed kept = record {
     agrees =
         agrees_without schema manager before after slot seat now r lawful kept.one_holder settled aimed kept.agrees
@@ -168,6 +170,9 @@ module _ (schema : Schema) (manager : Manager) (before after : Ground) (slot : �
         other_plans manager s settled aimed settled (taken_over seat aimed settled) (λ t open_one class. refl)
         (λ t open_one class within. same_aimed i s other at t open_one class within) had)
         (of_one (λ (s : Seat). PlanIsGood manager s settled (taken_over seat aimed settled)) now (λ speaks unwritten. absurd (gives_up.planless speaks unwritten)));
+    drops =
+        each_now before after slot (Some seat) (Some now) r (λ i s. DropsNone manager s) (λ i s. DropsNone manager s) kept.drops (λ i s other at had. had)
+        (of_one (λ (s : Seat). DropsNone manager s) now gives_up.drops);
     rests =
         each_now before after slot (Some seat) (Some now) r (λ i s. Rests manager (length schema.classes) s) (λ i s. Rests manager (length schema.classes) s) kept.rests (λ i s other at had. had)
         (of_one (λ (s : Seat). Rests manager (length schema.classes) s) now gives_up.rests);
@@ -268,6 +273,7 @@ back_gives_up manager.Mvcc classes cause seat rests live none now_rests = record
     latched = λ n on. absurd (works_nowhere (rolls_back manager.Mvcc cause seat).hand (empty_without_plan manager.Mvcc classes seat rests refl live none) refl n on);
     places = has_places (rolls_back manager.Mvcc cause seat).hand (empty_without_plan manager.Mvcc classes seat rests refl live none) refl;
   };
+  drops = λ single. refl;
   rests = now_rests;
 }
 back_gives_up manager.Mursiw classes cause seat rests live none now_rests = record {
@@ -283,6 +289,7 @@ back_gives_up manager.Mursiw classes cause seat rests live none now_rests = reco
     latched = λ n on. still_latched g work n on;
     places = fits work.places;
   };
+  drops = λ single. refl;
   rests = now_rests;
 }
   where
@@ -294,7 +301,7 @@ back_gives_up manager.Mursiw classes cause seat rests live none now_rests = reco
     fits places = omega (arith, places)
 
 pub back_kept : (schema : Schema) (manager : Manager) (before after : Ground) (c : ConnId) (seat : Seat) (cause : Cause) → IsLawful schema → ChangesSeat before after c seat (rolls_back manager cause) → seat.condemned ≡ None → seat.hand.plan.pairs ≡ [] →
-    ((seat.hand.phase ≡ phase.Running kind.ReadWrite) ⊎ (seat.hand.phase ≡ phase.Writing)) → KeepsWithout schema manager before after seat
+    ((seat.hand.phase ≡ phase.Running kind.ReadWrite) ⊎ (seat.hand.phase ≡ phase.Writing)) → KeptByGivingUp schema manager before after seat
 back_kept schema manager before after c seat cause lawful changes live none between serials ids settled aimed kept =
     let r = changes_replace before after c seat (rolls_back manager cause) changes in
     let there = changed_there before after c seat (rolls_back manager cause) changes in
@@ -335,6 +342,8 @@ condemned_rests m classes condemned seat phase.Writing r = record {
   work = λ live. dead condemned live;
   one = λ live. dead condemned live;
   undo = λ live. dead condemned live;
+  latch = r.latch;
+  unplanned = λ work live. dead condemned live;
   all = λ live. dead condemned live;
 }
 condemned_rests m classes condemned seat phase.RollingBack r = record {
@@ -360,6 +369,7 @@ condemned_gives_up m classes condemned seat undropped rests = record {
   planless = λ speaks unwritten. false≢true (sym quiet ∙ speaks);
   taking = inl refl;
   works = λ g work. record { latched = work.latched; places = work.places };
+  drops = λ single. undropped;
   rests = condemned_rests m classes condemned seat seat.hand.phase rests;
 }
   where
@@ -375,6 +385,7 @@ module _ (schema : Schema) (manager : Manager) (before after : Ground) (d : Conn
       (record { latches = refl; undo = refl; plan = refl; aims = speaks_now ∙ sym speaks }) lawful refl refl serials ids settled aimed kept
       (taking_owns manager seat (with_condemned condemned seat) refl refl refl refl settled aimed aimed (inl refl) (kept.own d.slot seat r.held))
       (good (kept.plans d.slot seat r.held))
+      (kept.drops d.slot seat r.held)
       (condemned_rests manager (length schema.classes) condemned seat seat.hand.phase (kept.rests d.slot seat r.held))
     where
       speaks : aims manager seat ≡ true
@@ -386,9 +397,9 @@ module _ (schema : Schema) (manager : Manager) (before after : Ground) (d : Conn
       good : PlanIsGood manager seat settled aimed → PlanIsGood manager (with_condemned condemned seat) settled aimed
       good had speaks_so unwritten =
           let leads = had speaks unwritten in
-          record { own = leads.own; others = leads.others; drop = leads.drop }
+          record { own = leads.own; others = leads.others; drop = leads.drop; first = leads.first }
 
-  pub condemned_kept : seat.condemned ≡ None → Keeps schema manager before after the_settled (aimed_without seat)
+  pub condemned_kept : seat.condemned ≡ None → KeptBy schema manager before after the_settled (aimed_without seat)
   condemned_kept live serials ids settled aimed kept = go (is_dropping seat.hand) refl
     where
       go : (b : Bool) → is_dropping seat.hand ≡ b → IsKept schema manager serials ids after settled (cond b aimed (taken_over seat aimed settled))

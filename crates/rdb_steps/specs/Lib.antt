@@ -6,3 +6,4 @@ pub mod Lists
 pub mod Debt
 pub mod Invariant
 pub mod States
+pub mod Moves

@@ -19,23 +19,23 @@ use Rattle.rdb_steps.specs.Lists.{the_settled, the_aimed, taken_over}
 use Rattle.rdb_steps.specs.Phases.{IsIdle}
 
 -- whatever versions are settled and aimed at: what is kept of a World by them is kept afterwards by these
-abbrev pub Keeps : Schema → Manager → Ground → Ground → (Versions → Versions → Versions) → (Versions → Versions → Versions) → Type 0
-Keeps schema manager before after settled_now aimed_now =
+abbrev pub KeptBy : Schema → Manager → Ground → Ground → (Versions → Versions → Versions) → (Versions → Versions → Versions) → Type 0
+KeptBy schema manager before after settled_now aimed_now =
     (serials : ℕ) (ids : List ℕ) (settled aimed : Versions) → IsKept schema manager serials ids before settled aimed
     → IsKept schema manager serials ids after (settled_now settled aimed) (aimed_now settled aimed)
 
 -- it is kept by the same versions
-abbrev pub KeepsAll : Schema → Manager → Ground → Ground → Type 0
-KeepsAll schema manager before after = Keeps schema manager before after the_settled the_aimed
+abbrev pub KeptByBoth : Schema → Manager → Ground → Ground → Type 0
+KeptByBoth schema manager before after = KeptBy schema manager before after the_settled the_aimed
 
 -- it is kept, and what a connection aimed at is no longer spoken of
-abbrev pub KeepsWithout : Schema → Manager → Ground → Ground → Seat → Type 0
-KeepsWithout schema manager before after seat =
-    Keeps schema manager before after the_settled (λ settled aimed. taken_over seat aimed settled)
+abbrev pub KeptByGivingUp : Schema → Manager → Ground → Ground → Seat → Type 0
+KeptByGivingUp schema manager before after seat =
+    KeptBy schema manager before after the_settled (λ settled aimed. taken_over seat aimed settled)
 
 -- it is kept, and what a connection aimed at is settled
-abbrev pub KeepsSettling : Schema → Manager → Ground → Ground → Seat → Type 0
-KeepsSettling schema manager before after seat = Keeps schema manager before after (taken_over seat) the_aimed
+abbrev pub KeptBySettling : Schema → Manager → Ground → Ground → Seat → Type 0
+KeptBySettling schema manager before after seat = KeptBy schema manager before after (taken_over seat) the_aimed
 
 -- what is aimed at once a connection is condemned: the same where it drops a version, else nothing of its own
 abbrev pub aimed_without : Seat → Versions → Versions → Versions
@@ -48,8 +48,8 @@ pub record ChangesSeat (before after : Ground) (c : ConnId) (seat : Seat) (chang
   pub records : after.seats ≡ changed before.seats c.slot change
 
 -- each record names the slot in which it stands
-abbrev pub AreInPlace : Seats → Type 0
-AreInPlace seats = EachSeat (λ slot seat. seat.conn.slot ≡ slot) seats
+abbrev pub ArePlaced : Seats → Type 0
+ArePlaced seats = EachSeat (λ slot seat. seat.conn.slot ≡ slot) seats
 
 -- the record has another story and other watches, and else is as it was; an idle one has no story
 pub record TellsAlone (seat now : Seat) : Type 0 where

@@ -19,36 +19,36 @@ ghost use Rattle.rdb_writes.specs.Changes.{Comes, Goes};
 ghost use Rattle.rdb_writes.specs.Grounds.{Ground};
 ghost use Rattle.rdb_steps.specs.Kept.{IsLawful};
 ghost use Rattle.rdb_steps.specs.Lists.{the_settled, taken_over};
-ghost use Rattle.rdb_steps.specs.Moves.{Keeps, KeepsAll, KeepsWithout, KeepsSettling, ChangesSeat, AreInPlace, TellsAlone, IsClean, IsOver, MayBegin, aimed_without};
+ghost use Rattle.rdb_steps.specs.Moves.{KeptBy, KeptByBoth, KeptByGivingUp, KeptBySettling, ChangesSeat, ArePlaced, TellsAlone, IsClean, IsOver, MayBegin, aimed_without};
 
 /// A connection comes: both lists of versions stay.
 pub fn a_connection_that_comes_keeps_all()
     ensures { (schema : Schema) (manager : Manager) (before after : Ground) (c : ConnId) (seat : Seat) → IsLawful schema
-        → Comes before after c.slot seat → IsNew c seat → KeepsAll schema manager before after }
+        → Comes before after c.slot seat → IsNew c seat → KeptByBoth schema manager before after }
 {}
 
 /// A connection goes that left nothing open: both lists of versions stay. So goes an idle one, and a condemned one that was repaired.
 pub fn a_connection_that_goes_keeps_all()
     ensures { (schema : Schema) (manager : Manager) (before after : Ground) (slot : ℕ) (seat : Seat) → IsLawful schema
-        → AreInPlace before.seats → Goes before after slot seat → IsClean seat → KeepsAll schema manager before after }
+        → ArePlaced before.seats → Goes before after slot seat → IsClean seat → KeptByBoth schema manager before after }
 {}
 
 /// A story grows, is moved out of its record, or back, or an event is watched, or told: both lists of versions stay.
 pub fn what_is_told_keeps_all()
     ensures { (schema : Schema) (manager : Manager) (before after : Ground) (c : ConnId) (seat : Seat) (change : Seat → Seat)
         → IsLawful schema → ChangesSeat before after c seat change → TellsAlone seat (change seat)
-        → KeepsAll schema manager before after }
+        → KeptByBoth schema manager before after }
 {}
 
 /// A transaction of an idle connection begins: both lists of versions stay. Under the manager of a single writer, a writer has every latch
 /// and another undo record, which is empty.
 pub fn a_transaction_that_begins_keeps_all()
     ensures { (schema : Schema) (manager : Manager) (before after : Ground) (c : ConnId) (seat : Seat) (wanted : Kind) (begun snapshot : ℕ)
-        (spare : Record) → IsLawful schema → AreInPlace before.seats
+        (spare : Record) → IsLawful schema → ArePlaced before.seats
         → ChangesSeat before after c seat
             (λ s. exchanged manager spare (latched manager (length schema.classes) (opened wanted begun snapshot s)))
         → seat.hand.phase ≡ phase.Idle → spare.pairs ≡ [] → MayBegin manager before.seats c.slot wanted
-        → KeepsAll schema manager before after }
+        → KeptByBoth schema manager before after }
 {}
 
 /// A roll-back of a live writer begins, between two plans: the settled versions stay, and what it aimed at is no longer spoken of.
@@ -56,21 +56,21 @@ pub fn a_roll_back_that_begins_keeps_the_settled()
     ensures { (schema : Schema) (manager : Manager) (before after : Ground) (c : ConnId) (seat : Seat) (cause : Cause) → IsLawful schema
         → ChangesSeat before after c seat (rolls_back manager cause) → seat.condemned ≡ None → seat.hand.plan.pairs ≡ []
         → (seat.hand.phase ≡ phase.Running kind.ReadWrite) ⊎ (seat.hand.phase ≡ phase.Writing)
-        → KeepsWithout schema manager before after seat }
+        → KeptByGivingUp schema manager before after seat }
 {}
 
 /// A live writer's transaction is marked: what it aimed at is settled. Where many may write it holds no latch, so this is nothing.
 pub fn a_mark_keeps_what_it_settles()
     ensures { (schema : Schema) (manager : Manager) (before after : Ground) (c : ConnId) (seat : Seat) (commit : ℕ) → IsLawful schema
         → ChangesSeat before after c seat (becomes_marked commit) → seat.condemned ≡ None
-        → seat.hand.phase ≡ phase.Running kind.ReadWrite → KeepsSettling schema manager before after seat }
+        → seat.hand.phase ≡ phase.Running kind.ReadWrite → KeptBySettling schema manager before after seat }
 {}
 
 /// A transaction is over of which nothing is left open: both lists of versions stay.
 pub fn a_transaction_that_ends_keeps_all()
     ensures { (schema : Schema) (manager : Manager) (before after : Ground) (c : ConnId) (seat : Seat) (change : Seat → Seat)
-        → IsLawful schema → AreInPlace before.seats → ChangesSeat before after c seat change → IsClean seat
-        → IsOver seat (change seat) → KeepsAll schema manager before after }
+        → IsLawful schema → ArePlaced before.seats → ChangesSeat before after c seat change → IsClean seat
+        → IsOver seat (change seat) → KeptByBoth schema manager before after }
 {}
 
 /// A record is over once its transaction is closed and its story is told: so after a read, after the last step of a roll-back, and after
@@ -88,7 +88,7 @@ pub fn a_closed_record_is_over()
 pub fn a_condemnation_keeps_the_settled()
     ensures { (schema : Schema) (manager : Manager) (before after : Ground) (d : ConnId) (seat : Seat) (condemned : Condemned)
         → IsLawful schema → ChangesSeat before after d seat (with_condemned condemned) → seat.condemned ≡ None
-        → Keeps schema manager before after the_settled (aimed_without seat) }
+        → KeptBy schema manager before after the_settled (aimed_without seat) }
 {}
 
 /// Without a latch nothing is taken over from another list; with all latches everything is.
