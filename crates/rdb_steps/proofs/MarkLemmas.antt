@@ -111,7 +111,7 @@ module _ (schema : Schema) (manager : Manager) (before after : Ground) (c : Conn
       let half = mark_settles schema manager before middle c seat (to_be_stamped seat.hand) lawful one agrees.works hand_changes empty empty refl
       (speaks manager (length schema.classes) seat between live runs) settled aimed agrees in
       let marks : Replaces middle after c.slot (Some (record seat { hand = to_be_stamped seat.hand })) (Some (becomes_marked commit seat)) = record {
-        cells = changes.cells;
+        cells = record { image = changes.cells.image; classes = changes.cells.classes };
         held = changed_here before.seats c.slot (λ (s : Seat). record s { hand = to_be_stamped seat.hand }) ∙ ap (option_map (λ (s : Seat). record s { hand = to_be_stamped seat.hand })) there;
         records =
             (changes_replace before after c seat (becomes_marked commit) changes).records

@@ -1,5 +1,5 @@
 -- The version of a transaction in a chain.
-use Rattle.std.proofs.Common.{◌≡◌, ◌<◌, ◌&&◌, ◌==◌, ◌∷◌, ℕ, zero, suc, List, [], length, Bool, true, false, cond, Option, Some, None, Contains, option_map, slice_index_or, refl, sym, ap, ◌∙◌, arith, eqb-true, eq-eqb}
+use Rattle.std.proofs.Common.{◌≡◌, ◌<◌, ◌+◌, ◌&&◌, ◌==◌, ◌∷◌, ℕ, zero, suc, List, [], length, Bool, true, false, cond, Option, Some, None, Contains, option_map, slice_index_or, refl, sym, ap, ◌∙◌, arith, eqb-true, eq-eqb}
 use Rattle.std.proofs.lemmas.Bool.{false≢true, and_parts, and_from}
 use Rattle.rdb_base.specs.declared.identity.Stamp.{Stamp}
 use Rattle.rdb_base.specs.declared.identity.Stamp.TheVariants as stamp
@@ -30,7 +30,7 @@ own_is tx (stamp.Done commit) e = absurd (false≢true e)
 -- none is found where no version of the chain is of the transaction
 pub none_found : (tx : TxId) (chain : List Version) → ((v : Version) → Contains chain v → v.stamp ≡ stamp.By tx → ⊥) → own_version tx chain ≡ None
 none_found tx [] none = refl
-none_found tx (v ∷ vs) none = step (is_own (Some tx) v.stamp) refl (none_found tx vs (λ w has is. none w (has.0 + 1, omega (arith, has.1), has.2) is))
+none_found tx (v ∷ vs) none = step (is_own (Some tx) v.stamp) refl (none_found tx vs (λ w has is. none w (suc has.0, omega (arith, has.1), has.2) is))
   where
     step : (b : Bool) → is_own (Some tx) v.stamp ≡ b → own_version tx vs ≡ None → cond b (Some v) (own_version tx vs) ≡ None
     step true e rest = absurd (none v (0, omega arith, refl) (own_is tx v.stamp e))

@@ -239,7 +239,7 @@ writing_back manager.Mursiw classes cause seat r live none = record {
   all = λ single alive. r.all live refl;
 }
 
-may_begin_back : Phase → Bool
+abbrev may_begin_back : Phase → Bool
 may_begin_back (phase.Running kind.ReadWrite) = true
 may_begin_back phase.Writing = true
 may_begin_back _ = false
