@@ -13,7 +13,7 @@ use Rattle.rdb_registry.specs.declared.seat.Seat.{Seat}
 use Rattle.rdb_registry.specs.declared.seat.Transaction.{Transaction}
 use Rattle.rdb_registry.specs.Seats.{Seats, HoldsLatch, seat_in}
 use Rattle.rdb_sight.specs.Versions.{Object, Versions, objects_in, chain_of, chain_in, own_version}
-use Rattle.rdb_writes.specs.Grounds.{Ground, AreWorks, HaveOneHolder, settled_image, aimed_image}
+use Rattle.rdb_writes.specs.Grounds.{Ground, HaveOneHolder, settled_image, aimed_image}
 use Rattle.rdb_writes.specs.Steps.{spans_one_plan, is_written}
 use Rattle.rdb_writes.proofs.ChangeLemmas.{by_holder}
 use Rattle.rdb_steps.specs.Invariant.{IsKept}

@@ -1,5 +1,5 @@
 -- A record changes of which the cells, latches and aims are as they were: its story, its watches, or that it was condemned.
-use Rattle.std.proofs.Common.{◌≡◌, ◌<◌, ◌≤◌, ◌+◌, ℕ, List, [], length, count_by, not, true, Option, Some, refl, sym, ap, subst, ◌∙◌, inl, inr}
+use Rattle.std.proofs.Common.{◌≡◌, ◌<◌, ◌≤◌, ◌+◌, ℕ, List, [], length, count_by, not, true, Some, refl, sym, ap, subst, ◌∙◌, inl, inr}
 use Rattle.std.proofs.lemmas.Bool.{false≢true}
 use Rattle.std.specs.Int.{bit_at}
 use Rattle.rdb_base.specs.declared.identity.ConnId.{ConnId}
@@ -19,7 +19,7 @@ use Rattle.rdb_steps.specs.Invariant.{IsKept, DropsNone}
 use Rattle.rdb_steps.specs.Kept.{IsLawful, HoldsClass, Agrees, OwnAre, IsUnaimed, AimsAt, aims}
 use Rattle.rdb_steps.specs.Moves.{ChangesSeat, KeptByBoth, TellsAlone}
 use Rattle.rdb_steps.specs.Phases.{Rests, RestsIn}
-use Rattle.rdb_steps.specs.Planned.{PlanIsGood, PlanLeads}
+use Rattle.rdb_steps.specs.Planned.{PlanIsGood}
 use Rattle.rdb_steps.proofs.MoveLemmas.{Replaces, changes_replace, changed_there, of_one, each_now, others_stay, works_after, one_after, single_after, agrees_same}
 use Rattle.rdb_steps.proofs.OpenLemmas.{HasNumber, stamped_still}
 

@@ -1,5 +1,5 @@
 -- A transaction begins.
-use Rattle.std.proofs.Common.{◌≡◌, ◌≢◌, ◌<◌, ◌+◌, ℕ, List, [], length, true, false, Option, Some, None, Contains, refl, sym, ap, subst, ◌∙◌, arith, inl, inr}
+use Rattle.std.proofs.Common.{◌≡◌, ◌≢◌, ◌<◌, ◌+◌, ℕ, List, [], length, true, false, Some, None, refl, sym, ap, subst, ◌∙◌, arith, inl, inr}
 use Rattle.std.proofs.lemmas.Bool.{false≢true}
 use Rattle.std.proofs.lemmas.Nat.Bits.{bit_at-lt}
 use Rattle.std.proofs.Permutation.{which}
@@ -11,7 +11,6 @@ use Rattle.rdb_base.specs.declared.identity.Manager.{Manager}
 use Rattle.rdb_base.specs.declared.identity.Manager.TheVariants as manager
 use Rattle.rdb_base.specs.declared.identity.Phase.{Phase}
 use Rattle.rdb_base.specs.declared.identity.Phase.TheVariants as phase
-use Rattle.rdb_base.specs.declared.identity.Stamp.TheVariants as stamp
 use Rattle.rdb_base.specs.declared.identity.TxId.{TxId}
 use Rattle.rdb_schema.specs.declared.schema.Schema.{Schema}
 use Rattle.rdb_cells.specs.declared.pairs.Pair.{Pair}
@@ -19,20 +18,20 @@ use Rattle.rdb_cells.specs.Records.{Record, planned}
 use Rattle.rdb_registry.specs.declared.seat.Seat.{Seat}
 use Rattle.rdb_registry.specs.declared.seat.Transaction.{Transaction}
 use Rattle.rdb_registry.specs.Seats.{EachSeat, HoldsLatch, NoneHolds, seat_in}
-use Rattle.rdb_sight.specs.Versions.{Version, Object, Versions, objects_in, chain_in}
+use Rattle.rdb_sight.specs.Versions.{Object, Versions, objects_in}
 use Rattle.rdb_transactions.specs.Records.{latched, exchanged, opened}
 use Rattle.rdb_writes.specs.Grounds.{Ground, HaveOneHolder, WorksOn, HasPlaces, IsLatched, settled_image, aimed_image}
 use Rattle.rdb_writes.specs.Steps.{spans_one_plan}
 use Rattle.rdb_writes.proofs.ChangeLemmas.{by_nobody}
 use Rattle.rdb_steps.specs.Invariant.{IsKept, IsSingle, DropsNone}
-use Rattle.rdb_steps.specs.Kept.{IsLawful, HoldsClass, OwnAre, HasNoVersion, AimsAt, IsUnaimed, aims, tx_of}
+use Rattle.rdb_steps.specs.Kept.{IsLawful, OwnAre, HasNoVersion, AimsAt, IsUnaimed, aims, tx_of}
 use Rattle.rdb_steps.specs.Moves.{ChangesSeat, ArePlaced, KeptByBoth, MayBegin}
 use Rattle.rdb_steps.specs.Phases.{IsIdle, Rests, RestsIn}
 use Rattle.rdb_steps.specs.Planned.{PlanIsGood}
 use Rattle.rdb_steps.specs.Stamped.{IsOpen, AreStamped}
 use Rattle.rdb_steps.proofs.IdleLemmas.{works_nowhere, has_places}
 use Rattle.rdb_steps.proofs.ListLemmas.{holds_same}
-use Rattle.rdb_steps.proofs.MoveLemmas.{Replaces, changes_replace, changed_there, of_one, each_now, others_stay, there_now, works_after, agrees_same}
+use Rattle.rdb_steps.proofs.MoveLemmas.{Replaces, changes_replace, of_one, each_now, others_stay, there_now, works_after, agrees_same}
 use Rattle.rdb_steps.proofs.OpenLemmas.{open_in, stamped_without, none_yet}
 use Rattle.rdb_steps.proofs.RestLemmas.{no_latch, latched_writer, good_without_plan, drops_none, owns_nothing}
 

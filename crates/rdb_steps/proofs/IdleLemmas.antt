@@ -1,5 +1,5 @@
 -- A connection comes, or its transaction ends, or it goes: whatever stands in its slot afterwards is idle.
-use Rattle.std.proofs.Common.{◌≡◌, ◌<◌, ◌+◌, ℕ, List, [], length, not, true, Option, Some, None, Contains, count_by, refl, sym, ap, subst, ◌∙◌, arith, inl, inr}
+use Rattle.std.proofs.Common.{◌≡◌, ◌<◌, ℕ, List, [], length, not, true, Option, Some, None, Contains, count_by, refl, sym, ap, subst, ◌∙◌, arith, inl, inr}
 use Rattle.rdb_base.specs.declared.identity.ConnId.{ConnId}
 use Rattle.rdb_base.specs.declared.identity.Manager.{Manager}
 use Rattle.rdb_base.specs.declared.identity.Phase.{Phase}
@@ -12,13 +12,13 @@ use Rattle.rdb_cells.specs.Records.{names}
 use Rattle.rdb_registry.specs.declared.hand.Hand.{Hand}
 use Rattle.rdb_registry.specs.declared.seat.Seat.{Seat}
 use Rattle.rdb_registry.specs.declared.seat.Transaction.{Transaction}
-use Rattle.rdb_registry.specs.Seats.{Seats, HoldsLatch, IsNew, seat_in}
+use Rattle.rdb_registry.specs.Seats.{HoldsLatch, IsNew, seat_in}
 use Rattle.rdb_sight.specs.Versions.{Version, Versions, objects_in, chain_in}
 use Rattle.rdb_writes.specs.Changes.{Comes, Goes}
 use Rattle.rdb_writes.specs.Grounds.{Ground, WorksOn, HasPlaces, logged_in}
 use Rattle.rdb_steps.specs.Invariant.{IsKept, DropsNone}
 use Rattle.rdb_steps.specs.Kept.{IsLawful, HasNoVersion, IsUnaimed, OwnAre, aims}
-use Rattle.rdb_steps.specs.Moves.{ChangesSeat, ArePlaced, IsClean, IsOver, KeptByBoth}
+use Rattle.rdb_steps.specs.Moves.{ChangesSeat, ArePlaced, HasNothingLeft, IsOver, KeptByBoth}
 use Rattle.rdb_steps.specs.Phases.{IsIdle, Rests, RestsIn}
 use Rattle.rdb_steps.specs.Planned.{PlanIsGood}
 use Rattle.rdb_steps.specs.Stamped.{IsOpen}
@@ -120,7 +120,7 @@ comes_kept schema manager before after c seat lawful comes new serials ids settl
         cc
 
 -- a transaction ends of which nothing is left, or its connection goes
-module _ (schema : Schema) (manager : Manager) (before after : Ground) (slot : ℕ) (seat : Seat) (now : Option Seat) (r : Replaces before after slot (Some seat) now) (lawful : IsLawful schema) (lies : (s : Seat) → now ≡ Some s → LiesIdle s) (in_place : ArePlaced before.seats) (clean : IsClean seat) where
+module _ (schema : Schema) (manager : Manager) (before after : Ground) (slot : ℕ) (seat : Seat) (now : Option Seat) (r : Replaces before after slot (Some seat) now) (lawful : IsLawful schema) (lies : (s : Seat) → now ≡ Some s → LiesIdle s) (in_place : ArePlaced before.seats) (clean : HasNothingLeft seat) where
   pub clean_kept : KeptByBoth schema manager before after
   clean_kept serials ids settled aimed kept =
       let no_settled = none_settled manager seat settled aimed (kept.own slot seat r.held) clean.own in
@@ -133,11 +133,11 @@ module _ (schema : Schema) (manager : Manager) (before after : Ground) (slot : �
       (unnamed before.seats slot seat r.held settled no_settled)
       (unnamed before.seats slot seat r.held aimed no_aimed)
 
-pub goes_kept : (schema : Schema) (manager : Manager) (before after : Ground) (slot : ℕ) (seat : Seat) → IsLawful schema → ArePlaced before.seats → Goes before after slot seat → IsClean seat → KeptByBoth schema manager before after
+pub goes_kept : (schema : Schema) (manager : Manager) (before after : Ground) (slot : ℕ) (seat : Seat) → IsLawful schema → ArePlaced before.seats → Goes before after slot seat → HasNothingLeft seat → KeptByBoth schema manager before after
 goes_kept schema manager before after slot seat lawful in_place goes clean =
     clean_kept schema manager before after slot seat None (record { cells = goes.cells; held = goes.held; records = goes.records }) lawful (of_none LiesIdle) in_place clean
 
-pub ends_kept : (schema : Schema) (manager : Manager) (before after : Ground) (c : ConnId) (seat : Seat) (change : Seat → Seat) → IsLawful schema → ArePlaced before.seats → ChangesSeat before after c seat change → IsClean seat →
+pub ends_kept : (schema : Schema) (manager : Manager) (before after : Ground) (c : ConnId) (seat : Seat) (change : Seat → Seat) → IsLawful schema → ArePlaced before.seats → ChangesSeat before after c seat change → HasNothingLeft seat →
     IsOver seat (change seat) → KeptByBoth schema manager before after
 ends_kept schema manager before after c seat change lawful in_place changes clean over =
     clean_kept schema manager before after c.slot seat (Some (change seat)) (changes_replace before after c seat change changes) lawful

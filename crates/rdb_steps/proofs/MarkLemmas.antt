@@ -1,5 +1,5 @@
 -- A transaction is marked: what its connection aimed at is settled.
-use Rattle.std.proofs.Common.{◌≡◌, ◌≢◌, ◌&&◌, ◌||◌, ◌==◌, ◌<◌, ℕ, List, [], length, set, Bool, true, false, not, Option, Some, None, is_some, IsSomeAnd, option_map, option_and_then, refl, sym, ap, subst, ◌∙◌, set-set, inl, inr}
+use Rattle.std.proofs.Common.{◌≡◌, ◌≢◌, ◌&&◌, ◌||◌, ◌==◌, ℕ, length, Bool, true, false, not, Option, Some, None, is_some, IsSomeAnd, option_map, option_and_then, refl, sym, ap, subst, ◌∙◌, set-set, inl, inr}
 use Rattle.std.proofs.lemmas.Bool.{false≢true}
 use Rattle.rdb_base.specs.declared.identity.ConnId.{ConnId}
 use Rattle.rdb_base.specs.declared.identity.Kind.TheVariants as kind
@@ -8,7 +8,6 @@ use Rattle.rdb_base.specs.declared.identity.Phase.{Phase}
 use Rattle.rdb_base.specs.declared.identity.Phase.TheVariants as phase
 use Rattle.rdb_schema.specs.declared.schema.Schema.{Schema}
 use Rattle.rdb_cells.proofs.SettledLemmas.{true_or_false}
-use Rattle.rdb_registry.specs.declared.hand.Hand.{Hand}
 use Rattle.rdb_registry.specs.declared.seat.Seat.{Seat}
 use Rattle.rdb_registry.specs.declared.seat.Transaction.{Transaction}
 use Rattle.rdb_registry.specs.Seats.{HoldsLatch, all_latches, marked, seat_in, with_hand}
@@ -19,8 +18,8 @@ use Rattle.rdb_transactions.specs.Hands.{to_be_stamped}
 use Rattle.rdb_transactions.specs.Records.{becomes_marked}
 use Rattle.rdb_writes.specs.Changes.{ChangesHand}
 use Rattle.rdb_writes.specs.Grounds.{Ground, WorksOn, IsWork, IsLatched, HaveOneHolder}
-use Rattle.rdb_writes.specs.Steps.{spans_one_plan, is_written}
-use Rattle.rdb_steps.specs.Invariant.{IsKept, DropsNone}
+use Rattle.rdb_writes.specs.Steps.{spans_one_plan}
+use Rattle.rdb_steps.specs.Invariant.{DropsNone}
 use Rattle.rdb_steps.specs.Kept.{IsLawful, Agrees, OwnAre, Owns, aims, is_dropping, is_marked, is_rolling_back, owns_settled, takes_back, tx_of}
 use Rattle.rdb_steps.specs.Lists.{taken_over}
 use Rattle.rdb_steps.specs.Moves.{ChangesSeat, KeptBySettling}

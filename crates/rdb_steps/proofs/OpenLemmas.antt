@@ -1,5 +1,5 @@
 -- Transactions that are open, as one slot's record is another.
-use Rattle.std.proofs.Common.{◌≡◌, ◌≢◌, ℕ, Option, Some, None, Contains, option_and_then, refl, sym, ap, subst, ◌∙◌, inl, inr}
+use Rattle.std.proofs.Common.{◌≡◌, ◌≢◌, ℕ, Option, Some, None, Contains, option_and_then, sym, ap, subst, ◌∙◌, inl, inr}
 use Rattle.std.proofs.Permutation.{which}
 use Rattle.rdb_base.specs.declared.identity.ConnId.{ConnId}
 use Rattle.rdb_base.specs.declared.identity.Stamp.TheVariants as stamp

@@ -1,10 +1,9 @@
 -- The version of a transaction in a chain.
-use Rattle.std.proofs.Common.{◌≡◌, ◌<◌, ◌+◌, ◌&&◌, ◌==◌, ◌∷◌, ℕ, zero, suc, List, [], length, Bool, true, false, cond, Option, Some, None, Contains, option_map, slice_index_or, refl, sym, ap, ◌∙◌, arith, eqb-true, eq-eqb}
+use Rattle.std.proofs.Common.{◌≡◌, ◌<◌, ◌&&◌, ◌==◌, ◌∷◌, ℕ, zero, suc, List, [], length, Bool, true, false, cond, Option, Some, None, Contains, option_map, slice_index_or, refl, sym, ap, ◌∙◌, arith, eqb-true, eq-eqb}
 use Rattle.std.proofs.lemmas.Bool.{false≢true, and_parts, and_from}
 use Rattle.rdb_base.specs.declared.identity.Stamp.{Stamp}
 use Rattle.rdb_base.specs.declared.identity.Stamp.TheVariants as stamp
 use Rattle.rdb_base.specs.declared.identity.TxId.{TxId}
-use Rattle.rdb_pages.specs.declared.cell.CellRef.{CellRef}
 use Rattle.rdb_sight.specs.Sight.{same_tx, is_own}
 use Rattle.rdb_sight.specs.Versions.{Version, own_version}
 use Rattle.rdb_store.specs.Stored.{ref_of}

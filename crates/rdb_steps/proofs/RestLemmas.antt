@@ -1,5 +1,5 @@
 -- What a record's phase says of its latches, its plan and its undo record.
-use Rattle.std.proofs.Common.{◌≡◌, ◌≢◌, ◌&&◌, ◌||◌, ◌==◌, ℕ, List, [], ◌∷◌, length, Bool, true, false, not, Option, Some, None, is_some, is_none, IsSomeAnd, option_map, refl, sym, ap, ◌∙◌, arith, eqb-true, inl, inr}
+use Rattle.std.proofs.Common.{◌≡◌, ◌&&◌, ◌||◌, ◌==◌, ℕ, List, [], ◌∷◌, length, Bool, true, false, not, Option, Some, None, is_some, is_none, option_map, refl, sym, ap, ◌∙◌, arith, eqb-true, inl, inr}
 use Rattle.std.proofs.lemmas.Bool.{false≢true}
 use Rattle.std.proofs.lemmas.Nat.Bits.{bit_at-zero}
 use Rattle.std.specs.Int.{bit_at}
@@ -21,7 +21,7 @@ use Rattle.rdb_sight.specs.Versions.{Versions, chain_in, own_version}
 use Rattle.rdb_store.specs.Stored.{ref_of}
 use Rattle.rdb_writes.specs.Steps.{spans_one_plan, is_written}
 use Rattle.rdb_steps.specs.Invariant.{DropsNone}
-use Rattle.rdb_steps.specs.Kept.{OwnAre, Owns, HasNoVersion, aims, is_dropping, is_marked, is_rolling_back, owns_settled, takes_back, tx_of}
+use Rattle.rdb_steps.specs.Kept.{OwnAre, Owns, HasNoVersion, aims, is_marked, is_rolling_back, takes_back, tx_of}
 use Rattle.rdb_steps.specs.Phases.{Rests, RestsIn, IsWriter}
 use Rattle.rdb_steps.specs.Planned.{PlanIsGood}
 use Rattle.rdb_steps.proofs.OwnVersions.{no_header}

@@ -1,12 +1,12 @@
 -- Lists of versions that are taken over class by class.
-use Rattle.std.proofs.Common.{◌≡◌, ◌≢◌, ◌⊎◌, ◌<◌, ◌≤◌, ◌+◌, ◌==◌, ◌∷◌, ℕ, zero, suc, List, [], length, cond, false, get_or, slice_index_or, Contains, AllPairs, refl, sym, ap, subst, ◌∙◌, arith, inl, inr}
+use Rattle.std.proofs.Common.{◌≡◌, ◌⊎◌, ◌≤◌, ◌+◌, ◌==◌, ◌∷◌, ℕ, zero, suc, List, [], length, cond, false, Contains, AllPairs, refl, sym, ap, subst, ◌∙◌, arith, inl, inr}
 use Rattle.std.proofs.lemmas.Bool.{cases_lt}
 use Rattle.std.proofs.lemmas.List.{ext_get_or}
 use Rattle.std.proofs.lemmas.Nat.Bits.{bit_at-zero, bit_at_ones}
 use Rattle.std.specs.Int.{bit_at}
 use Rattle.rdb_registry.specs.declared.seat.Seat.{Seat}
 use Rattle.rdb_registry.specs.Seats.{Seats, HoldsLatch, all_latches}
-use Rattle.rdb_sight.specs.Versions.{Version, Object, Versions, objects_in, chain_of}
+use Rattle.rdb_sight.specs.Versions.{Object, Versions, objects_in, chain_of}
 use Rattle.rdb_store.specs.Stored.{HasVersion}
 use Rattle.rdb_steps.specs.Kept.{AreDrawn}
 use Rattle.rdb_steps.specs.Lists.{taken_over, taken_over_from}

@@ -1,5 +1,5 @@
 -- A record's aims are no longer spoken of: a roll-back begins, or its connection is condemned.
-use Rattle.std.proofs.Common.{◌≡◌, ◌≢◌, ◌⊎◌, ◌<◌, ◌≤◌, ◌+◌, ◌&&◌, ◌||◌, ◌==◌, ℕ, List, [], length, count_by, Bool, true, false, not, cond, Option, Some, None, is_some, option_map, option_and_then, refl, sym, ap, subst, ◌∙◌, arith, inl, inr}
+use Rattle.std.proofs.Common.{◌≡◌, ◌≢◌, ◌⊎◌, ◌≤◌, ◌+◌, ◌&&◌, ◌||◌, ◌==◌, ℕ, List, [], length, Bool, true, false, not, cond, Option, Some, None, is_some, option_map, option_and_then, refl, sym, ap, ◌∙◌, arith, inl, inr}
 use Rattle.std.proofs.lemmas.Bool.{false≢true, and_parts}
 use Rattle.rdb_base.specs.declared.identity.ConnId.{ConnId}
 use Rattle.rdb_base.specs.declared.identity.Kind.TheVariants as kind
@@ -9,8 +9,6 @@ use Rattle.rdb_base.specs.declared.identity.Phase.{Phase}
 use Rattle.rdb_base.specs.declared.identity.Phase.TheVariants as phase
 use Rattle.rdb_base.specs.declared.journal.Cause.{Cause}
 use Rattle.rdb_schema.specs.declared.schema.Schema.{Schema}
-use Rattle.rdb_cells.specs.declared.pairs.Pair.{Pair}
-use Rattle.rdb_cells.specs.Records.{names}
 use Rattle.rdb_cells.proofs.SettledLemmas.{true_or_false}
 use Rattle.rdb_registry.specs.declared.own_writes.OwnWrite.{OwnWrite}
 use Rattle.rdb_registry.specs.declared.seat.Condemned.{Condemned}
@@ -24,17 +22,17 @@ use Rattle.rdb_transactions.specs.Records.{rolls_back}
 use Rattle.rdb_writes.specs.Grounds.{Ground, WorksOn, HasPlaces, IsLatched, IsWork}
 use Rattle.rdb_writes.specs.Steps.{spans_one_plan, is_written}
 use Rattle.rdb_steps.specs.Invariant.{IsKept, DropsNone}
-use Rattle.rdb_steps.specs.Kept.{IsLawful, OwnAre, Owns, HasNoVersion, aims, is_dropping, is_marked, owns_settled, takes_back, tx_of}
+use Rattle.rdb_steps.specs.Kept.{IsLawful, OwnAre, Owns, HasNoVersion, aims, is_dropping, is_marked, takes_back, tx_of}
 use Rattle.rdb_steps.specs.Lists.{the_settled, taken_over}
 use Rattle.rdb_steps.specs.Moves.{ChangesSeat, KeptBy, KeptByGivingUp, aimed_without}
 use Rattle.rdb_steps.specs.Phases.{Rests, RestsIn, IsBetween, IsWriting}
-use Rattle.rdb_steps.specs.Planned.{PlanIsGood, PlanLeads, IsWithin, all_but}
-use Rattle.rdb_steps.proofs.AlikeLemmas.{AreAlike, alike_kept}
+use Rattle.rdb_steps.specs.Planned.{PlanIsGood, IsWithin, all_but}
+use Rattle.rdb_steps.proofs.AlikeLemmas.{alike_kept}
 use Rattle.rdb_steps.proofs.IdleLemmas.{works_nowhere, has_places}
 use Rattle.rdb_steps.proofs.ListLemmas.{taken_free, held_or_not}
 use Rattle.rdb_steps.proofs.MoveLemmas.{Replaces, changes_replace, changed_there, of_one, each_now, others_stay, works_after, one_after, single_after, agrees_without}
 use Rattle.rdb_steps.proofs.OpenLemmas.{HasNumber, stamped_still}
-use Rattle.rdb_steps.proofs.RestLemmas.{no_pairs, no_latch, or_first, or_second, latched_writer, empty_without_plan, good_without_plan, owns_nothing}
+use Rattle.rdb_steps.proofs.RestLemmas.{no_pairs, no_latch, or_first, or_second, latched_writer, empty_without_plan, owns_nothing}
 use Rattle.rdb_steps.proofs.TakenLemmas.{taken_drawn, taken_stamped}
 
 -- what another record owns, and where its plan leads, by lists that are the same as far as it speaks of them

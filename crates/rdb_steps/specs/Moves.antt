@@ -1,5 +1,5 @@
 -- Moves of one connection's record that write no cell, and what they leave of what is kept of a World.
-use Rattle.std.specs.Prelude.{◌≡◌, ◌≢◌, ℕ, List, [], false, Some, None, if◌then◌else◌}
+use Rattle.std.specs.Prelude.{◌≡◌, ◌≢◌, ℕ, List, [], false, Some, if◌then◌else◌}
 use Rattle.rdb_base.specs.declared.identity.ConnId.{ConnId}
 use Rattle.rdb_base.specs.declared.identity.Kind.{Kind}
 use Rattle.rdb_base.specs.declared.identity.Kind.TheVariants as kind
@@ -19,7 +19,8 @@ use Rattle.rdb_steps.specs.Lists.{the_settled, the_aimed, taken_over}
 use Rattle.rdb_steps.specs.Phases.{IsIdle}
 
 -- whatever versions are settled and aimed at: what is kept of a World by them is kept afterwards by these
-abbrev pub KeptBy : Schema → Manager → Ground → Ground → (Versions → Versions → Versions) → (Versions → Versions → Versions) → Type 0
+abbrev pub KeptBy : Schema → Manager → Ground → Ground → (Versions → Versions → Versions) → (Versions → Versions → Versions)
+    → Type 0
 KeptBy schema manager before after settled_now aimed_now =
     (serials : ℕ) (ids : List ℕ) (settled aimed : Versions) → IsKept schema manager serials ids before settled aimed
     → IsKept schema manager serials ids after (settled_now settled aimed) (aimed_now settled aimed)
@@ -56,9 +57,8 @@ pub record TellsAlone (seat now : Seat) : Type 0 where
   pub rest : now ≡ record seat { hand = record seat.hand { done = now.hand.done; subscriptions = now.hand.subscriptions } }
   pub idle : seat.hand.phase ≡ phase.Idle → now.hand.done.items ≡ []
 
--- nothing is in work, planned, to be taken back, or written and not stamped
-pub record IsClean (seat : Seat) : Type 0 where
-  pub work : seat.hand.work ≡ None
+-- nothing is left to write, to take back, to drop or to stamp
+pub record HasNothingLeft (seat : Seat) : Type 0 where
   pub plan : seat.hand.plan.pairs ≡ []
   pub undo : seat.hand.undo.pairs ≡ []
   pub own : seat.hand.own.items ≡ []

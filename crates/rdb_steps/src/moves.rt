@@ -19,7 +19,7 @@ ghost use Rattle.rdb_writes.specs.Changes.{Comes, Goes};
 ghost use Rattle.rdb_writes.specs.Grounds.{Ground};
 ghost use Rattle.rdb_steps.specs.Kept.{IsLawful};
 ghost use Rattle.rdb_steps.specs.Lists.{the_settled, taken_over};
-ghost use Rattle.rdb_steps.specs.Moves.{KeptBy, KeptByBoth, KeptByGivingUp, KeptBySettling, ChangesSeat, ArePlaced, TellsAlone, IsClean, IsOver, MayBegin, aimed_without};
+ghost use Rattle.rdb_steps.specs.Moves.{KeptBy, KeptByBoth, KeptByGivingUp, KeptBySettling, ChangesSeat, ArePlaced, TellsAlone, HasNothingLeft, IsOver, MayBegin, aimed_without};
 
 /// A connection comes: both lists of versions stay.
 pub fn a_connection_that_comes_keeps_all()
@@ -30,7 +30,7 @@ pub fn a_connection_that_comes_keeps_all()
 /// A connection goes that left nothing open: both lists of versions stay. So goes an idle one, and a condemned one that was repaired.
 pub fn a_connection_that_goes_keeps_all()
     ensures { (schema : Schema) (manager : Manager) (before after : Ground) (slot : ℕ) (seat : Seat) → IsLawful schema
-        → ArePlaced before.seats → Goes before after slot seat → IsClean seat → KeptByBoth schema manager before after }
+        → ArePlaced before.seats → Goes before after slot seat → HasNothingLeft seat → KeptByBoth schema manager before after }
 {}
 
 /// A story grows, is moved out of its record, or back, or an event is watched, or told: both lists of versions stay.
@@ -69,18 +69,18 @@ pub fn a_mark_keeps_what_it_settles()
 /// A transaction is over of which nothing is left open: both lists of versions stay.
 pub fn a_transaction_that_ends_keeps_all()
     ensures { (schema : Schema) (manager : Manager) (before after : Ground) (c : ConnId) (seat : Seat) (change : Seat → Seat)
-        → IsLawful schema → ArePlaced before.seats → ChangesSeat before after c seat change → IsClean seat
+        → IsLawful schema → ArePlaced before.seats → ChangesSeat before after c seat change → HasNothingLeft seat
         → IsOver seat (change seat) → KeptByBoth schema manager before after }
 {}
 
 /// A record is over once its transaction is closed and its story is told: so after a read, after the last step of a roll-back, and after
 /// the last stamp of a commit.
 pub fn a_closed_record_is_over()
-    ensures closed { (manager : Manager) (spare : Record) (seat : Seat) → IsClean seat → spare.pairs ≡ [] → seat.hand.done.items ≡ []
-        → IsOver seat (closed (exchanged manager spare seat)) }
-    ensures told { (manager : Manager) (spare : Record) (seat : Seat) → IsClean seat → spare.pairs ≡ []
-        → IsOver seat (closed (exchanged manager spare (on_hand without_story seat))) }
-    ensures at_once { (manager : Manager) (spare : Record) (cause : Cause) (seat : Seat) → IsClean seat → spare.pairs ≡ []
+    ensures closed { (manager : Manager) (spare : Record) (seat : Seat) → HasNothingLeft seat → seat.hand.work ≡ None → spare.pairs ≡ []
+        → seat.hand.done.items ≡ [] → IsOver seat (closed (exchanged manager spare seat)) }
+    ensures told { (manager : Manager) (spare : Record) (seat : Seat) → HasNothingLeft seat → seat.hand.work ≡ None
+        → spare.pairs ≡ [] → IsOver seat (closed (exchanged manager spare (on_hand without_story seat))) }
+    ensures at_once { (manager : Manager) (spare : Record) (cause : Cause) (seat : Seat) → HasNothingLeft seat → spare.pairs ≡ []
         → IsOver seat (closed (exchanged manager spare (on_hand without_story (rolls_back manager cause seat)))) }
 {}
 
