@@ -22,3 +22,11 @@ pub mod AlikeLemmas
 pub mod WithoutLemmas
 pub mod MarkLemmas
 pub mod BeginLemmas
+pub mod WholeLemmas
+pub mod PageLemmas
+pub mod HandKept
+pub mod WriteLemmas
+pub mod StayLemmas
+pub mod ReleaseLemmas
+pub mod FirstLemmas
+pub mod StateWrites

@@ -7,3 +7,4 @@ pub mod Debt
 pub mod Invariant
 pub mod States
 pub mod Moves
+pub mod Steps
