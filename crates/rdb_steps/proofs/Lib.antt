@@ -30,3 +30,4 @@ pub mod StayLemmas
 pub mod ReleaseLemmas
 pub mod FirstLemmas
 pub mod StateWrites
+pub mod RoomLemmas

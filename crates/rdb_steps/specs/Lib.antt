@@ -8,3 +8,4 @@ pub mod Invariant
 pub mod States
 pub mod Moves
 pub mod Steps
+pub mod Rooms

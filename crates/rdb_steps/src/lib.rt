@@ -18,6 +18,7 @@ mod finish;
 mod grant;
 mod laws;
 mod moves;
+mod rooms;
 mod state;
 mod write;
 
@@ -34,5 +35,9 @@ pub use moves::{
     a_connection_that_goes_keeps_all, a_mark_keeps_what_it_settles,
     a_roll_back_that_begins_keeps_the_settled, a_transaction_that_begins_keeps_all,
     a_transaction_that_ends_keeps_all, what_is_taken_over, what_is_told_keeps_all,
+};
+pub use rooms::{
+    a_condemnation_keeps_rooms, a_connection_that_closes_keeps_rooms,
+    a_connection_that_comes_keeps_rooms, a_mark_keeps_rooms,
 };
 pub use state::{Counters, State};
