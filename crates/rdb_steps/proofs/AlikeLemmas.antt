@@ -97,7 +97,7 @@ module _ (schema : Schema) (manager : Manager) (before after : Ground) (slot : �
       same_number t open_one = record { transaction = t; open_one = transaction ∙ open_one; number_is = refl }
 
 -- another story, and other watches
-abbrev told : Seat → Seat → Seat
+abbrev pub told : Seat → Seat → Seat
 told seat now = record seat { hand = record seat.hand { done = now.hand.done; subscriptions = now.hand.subscriptions } }
 
 told_owns : (manager : Manager) (seat now : Seat) (settled aimed : Versions) → OwnAre manager seat settled aimed → OwnAre manager (told seat now) settled aimed

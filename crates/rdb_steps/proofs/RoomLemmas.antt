@@ -9,6 +9,7 @@ use Rattle.std.specs.Option.{option_map_or}
 use Rattle.rdb_base.specs.declared.identity.ConnId.{ConnId}
 use Rattle.rdb_base.specs.declared.identity.Manager.{Manager}
 use Rattle.rdb_base.specs.declared.identity.Manager.TheVariants as manager
+use Rattle.rdb_base.specs.declared.journal.Cause.{Cause}
 use Rattle.rdb_base.specs.declared.journal.Entry.{Entry}
 use Rattle.rdb_base.specs.declared.limits.TheConstants.{MAX_OPERATIONS}
 use Rattle.rdb_schema.specs.declared.schema.Schema.{Schema}
@@ -24,11 +25,13 @@ use Rattle.rdb_registry.proofs.SlotLemmas.{seat_in_other}
 use Rattle.rdb_transactions.specs.declared.transactions.Transactions.{Transactions}
 use Rattle.rdb_transactions.specs.Claims.{is_unmarked}
 use Rattle.rdb_transactions.specs.Moves.{Moves, Comes, Condemns, Leaves, KeepsSpare}
-use Rattle.rdb_transactions.specs.Records.{becomes_marked, is_single_writer}
+use Rattle.rdb_transactions.specs.Records.{becomes_marked, is_single_writer, rolls_back}
 use Rattle.rdb_writes.proofs.WorkLemmas.{in_its_slot}
 use Rattle.rdb_writes.specs.Steps.{spans_one_plan}
 use Rattle.rdb_steps.specs.Kept.{is_rolling_back}
-use Rattle.rdb_steps.specs.Rooms.{HaveRooms, KeepRooms}
+use Rattle.rdb_steps.specs.Moves.{TellsAlone}
+use Rattle.rdb_steps.specs.Rooms.{HaveRooms, KeepRooms, TellsFew}
+use Rattle.rdb_steps.proofs.AlikeLemmas.{told}
 use Rattle.rdb_steps.proofs.MoveLemmas.{of_one, of_none}
 use Rattle.rdb_steps.specs.States.{IsFurnished, SpareFits, AreFewer, WorkFits, operations_of, planned_so_far, planned_by, planned_in, ever_planned}
 
@@ -328,4 +331,63 @@ condemned_rooms before after d by seat condemns held schema cells serials ids ro
       done = f.done;
       own = f.own;
       few = f.few;
+    })
+
+-- a roll-back begins
+back_transaction : (m : Manager) (cause : Cause) (s : Seat) → (rolls_back m cause s).transaction ≡ s.transaction
+back_transaction manager.Mvcc cause s = refl
+back_transaction manager.Mursiw cause s = refl
+
+back_counted : (a b c : Bool) (x y n : ℕ) → cond a 0 (cond (b || c) n x) ≤ n → cond a 0 (cond (b || c) n x) ≤ cond a 0 (cond (b || true) n y)
+back_counted true b c x y n few = omega arith
+back_counted false true c x y n few = few
+back_counted false false c x y n few = few
+
+back_planned : (m : Manager) (cause : Cause) (s : Seat) → planned_by s ≤ MAX_OPERATIONS → planned_by s ≤ planned_by (rolls_back m cause s)
+back_planned manager.Mvcc cause s few =
+    back_counted (not (is_unmarked s)) (is_some s.condemned) (is_rolling_back s.hand.phase) (planned_so_far s) (planned_so_far (rolls_back manager.Mvcc cause s)) MAX_OPERATIONS few
+back_planned manager.Mursiw cause s few =
+    back_counted (not (is_unmarked s)) (is_some s.condemned) (is_rolling_back s.hand.phase) (planned_so_far s) (planned_so_far (rolls_back manager.Mursiw cause s)) MAX_OPERATIONS few
+
+back_furnished : (schema : Schema) (m : Manager) (cells : ℕ) (cause : Cause) (s : Seat) → IsFurnished schema m cells s → IsFurnished schema m cells (rolls_back m cause s)
+back_furnished schema manager.Mvcc cells cause s f = workless schema manager.Mvcc cells s (rolls_back manager.Mvcc cause s) f refl refl refl refl refl
+back_furnished schema manager.Mursiw cells cause s f = workless schema manager.Mursiw cells s (rolls_back manager.Mursiw cause s) f refl refl refl refl refl
+
+pub back_rooms : (before after : Transactions) (c : ConnId) (seat : Seat) (cause : Cause) → Moves before after c (rolls_back before.manager cause) [] → KeepsSpare before after → seat_of before.registry.seats c ≡ Some seat → KeepRooms before after
+back_rooms before after c seat cause moves spare held schema cells serials ids rooms =
+    let f = rooms.furnished c.slot seat (in_its_slot before.registry.seats c seat held) in
+    same_rooms before after c.slot seat (rolls_back before.manager cause seat) [] (moves_slot before after c seat (rolls_back before.manager cause) [] moves spare held)
+    (by_transaction before.manager (rolls_back before.manager cause seat) seat (back_transaction before.manager cause seat))
+    (let counted = back_planned before.manager cause seat (planned_few schema before.manager cells seat f) in omega (arith, counted))
+    schema cells serials ids rooms (back_furnished schema before.manager cells cause seat f)
+
+-- a story grows, or a watch changes
+told_counted : (a b c : Bool) (x y n : ℕ) → x ≤ y → cond a 0 (cond (b || c) n x) ≤ cond a 0 (cond (b || c) n y)
+told_counted true b c x y n grows = omega arith
+told_counted false true c x y n grows = omega arith
+told_counted false false true x y n grows = omega arith
+told_counted false false false x y n grows = grows
+
+told_planned : (seat now : Seat) → length seat.hand.done.items ≤ length now.hand.done.items → planned_by seat ≤ planned_by (told seat now)
+told_planned seat now grows =
+    told_counted (not (is_unmarked seat)) (is_some seat.condemned) (is_rolling_back seat.hand.phase) (planned_so_far seat) (planned_so_far (told seat now)) MAX_OPERATIONS
+    (omega (arith, grows))
+
+pub told_rooms : (before after : Transactions) (c : ConnId) (seat : Seat) (change : Seat → Seat) → Moves before after c change [] → KeepsSpare before after → seat_of before.registry.seats c ≡ Some seat → TellsAlone seat (change seat) →
+    TellsFew seat (change seat) → KeepRooms before after
+told_rooms before after c seat change moves spare held tells small schema cells serials ids rooms =
+    let f = rooms.furnished c.slot seat (in_its_slot before.registry.seats c seat held) in
+    let same = by_transaction before.manager (told seat (change seat)) seat refl in
+    let counted = told_planned seat (change seat) small.grows in
+    same_rooms before after c.slot seat (told seat (change seat)) []
+    (subst (λ (x : Seat). MovesSlot before after c.slot (Some seat) (Some x) []) tells.rest (moves_slot before after c seat change [] moves spare held))
+    same (omega (arith, counted)) schema cells serials ids rooms
+    (record {
+      plan = f.plan;
+      undo = λ quiet. f.undo (sym same ∙ quiet);
+      single = λ writes. f.single (sym same ∙ writes);
+      work = f.work;
+      done = small.room;
+      own = f.own;
+      few = subst (λ (x : Seat). operations_of x ≤ MAX_OPERATIONS) tells.rest small.few;
     })
