@@ -10,6 +10,18 @@ pub mod DebtLemmas
 pub mod StoreLemmas
 pub mod MixLemmas
 pub mod KeptLemmas
+pub mod OwnVersions
+pub mod TakenLemmas
+pub mod OpenLemmas
+pub mod MoveLemmas
+pub mod RestLemmas
+pub mod AimLemmas
+pub mod IdleLemmas
+pub mod ClosedLemmas
+pub mod AlikeLemmas
+pub mod WithoutLemmas
+pub mod MarkLemmas
+pub mod BeginLemmas
 pub mod WholeLemmas
 pub mod PageLemmas
 pub mod HandKept
@@ -20,3 +32,4 @@ pub mod FirstLemmas
 pub mod StateWrites
 pub mod BackLemmas
 pub mod StateBacks
+pub mod RoomLemmas

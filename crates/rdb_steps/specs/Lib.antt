@@ -6,4 +6,6 @@ pub mod Lists
 pub mod Debt
 pub mod Invariant
 pub mod States
+pub mod Moves
 pub mod Steps
+pub mod Rooms

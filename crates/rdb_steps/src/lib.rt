@@ -17,6 +17,8 @@
 mod finish;
 mod grant;
 mod laws;
+mod moves;
+mod rooms;
 mod state;
 mod take_back;
 mod write;
@@ -28,5 +30,16 @@ pub use laws::{
     a_served_schema_is_lawful, a_stamp_leaves_that_stamp, a_written_cell_leaves_the_lists,
     cells_that_come_leave_the_lists, debt_is_bounded, latches_leave_the_settled,
     own_writes_follow_the_versions,
+};
+pub use moves::{
+    a_closed_record_is_over, a_condemnation_keeps_the_settled, a_connection_that_comes_keeps_all,
+    a_connection_that_goes_keeps_all, a_mark_keeps_what_it_settles,
+    a_roll_back_that_begins_keeps_the_settled, a_transaction_that_begins_keeps_all,
+    a_transaction_that_ends_keeps_all, what_is_taken_over, what_is_told_keeps_all,
+};
+pub use rooms::{
+    a_condemnation_keeps_rooms, a_connection_that_closes_keeps_rooms,
+    a_connection_that_comes_keeps_rooms, a_mark_keeps_rooms,
+    a_roll_back_that_begins_keeps_rooms, what_is_told_keeps_rooms,
 };
 pub use state::{Counters, State};
