@@ -1,7 +1,7 @@
 -- What every step keeps of cells, latches, plans, undo records and own writes. Nothing here speaks of a journal. It is said of two lists of
 -- versions: the settled ones, which are there once all unfinished work is taken back, and those aimed at, which are there once the plan of
 -- each class's holder is written.
-use Rattle.std.specs.Prelude.{◌≡◌, ◌≢◌, ◌<◌, ◌≤◌, ◌&&◌, ◌||◌, ◌==◌, ℕ, List, [], Bool, true, false, not, length, slice_index, Some, is_some, is_none, option_and_then}
+use Rattle.std.specs.Prelude.{◌≡◌, ◌≢◌, ◌<◌, ◌≤◌, ◌&&◌, ◌||◌, ◌==◌, ℕ, List, [], Bool, true, false, not, length, slice_index, Some, None, is_some, is_none, option_and_then}
 use Rattle.std.specs.Option.{option_map}
 use Rattle.rdb_base.specs.declared.identity.Manager.{Manager}
 use Rattle.rdb_base.specs.declared.identity.Phase.{Phase}
@@ -91,11 +91,19 @@ is_marked seat = is_some (option_and_then (λ t. t.mark) seat.transaction)
 abbrev pub owns_settled : Manager → Seat → Bool
 owns_settled manager seat = spans_one_plan manager || (is_marked seat || (takes_back manager seat && (length seat.hand.undo.pairs == 0)))
 
--- the own writes of each record are those of its transaction's versions that are settled; of a live writer under MURSIW, outside a plan,
--- those of the versions that it has made
+-- no version is of the open transaction of a record
+abbrev pub HasNoVersion : Seat → Versions → Type 0
+HasNoVersion seat versions = (transaction : Transaction) → seat.transaction ≡ Some transaction → (class id : ℕ) →
+    own_version (tx_of seat transaction) (chain_in versions class id) ≡ None
+
+-- The own writes of each record are those of its transaction's versions that are settled; of a live writer under MURSIW, outside a plan,
+-- those of the versions that it has made. Under MURSIW no version of a transaction is settled before its mark, and it has none where it
+-- has logged no cell.
 pub record OwnAre (manager : Manager) (seat : Seat) (settled aimed : Versions) : Type 0 where
   pub are_settled : owns_settled manager seat ≡ true → Owns seat settled
   pub are_made : owns_settled manager seat ≡ false → takes_back manager seat ≡ false → is_written seat.hand ≡ true → Owns seat aimed
+  pub none_settled : spans_one_plan manager ≡ false → is_marked seat ≡ false → HasNoVersion seat settled
+  pub none_logged : spans_one_plan manager ≡ false → is_marked seat ≡ false → seat.hand.undo.pairs ≡ [] → seat.hand.own.items ≡ []
 
 -- no version has a serial above those that were drawn, and no object an id above those of its class
 pub record AreDrawn (serials : ℕ) (ids : List ℕ) (versions : Versions) : Type 0 where

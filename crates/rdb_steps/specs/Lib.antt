@@ -1,5 +1,11 @@
 pub mod Kept
 pub mod Phases
+pub mod Stamped
+pub mod Planned
 pub mod Lists
 pub mod Debt
 pub mod Invariant
+pub mod States
+pub mod Moves
+pub mod Steps
+pub mod Rooms
