@@ -8,3 +8,9 @@ pub mod OwnLemmas
 pub mod PhaseLemmas
 pub mod DebtLemmas
 pub mod StoreLemmas
+pub mod OwnChains
+pub mod RestingLemmas
+pub mod MakingLemmas
+pub mod LeadingLemmas
+pub mod PlanningLemmas
+pub mod PlaceCounts

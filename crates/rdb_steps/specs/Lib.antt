@@ -5,3 +5,4 @@ pub mod Planned
 pub mod Lists
 pub mod Debt
 pub mod Invariant
+pub mod Making
