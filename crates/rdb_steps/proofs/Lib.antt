@@ -14,3 +14,5 @@ pub mod MakingLemmas
 pub mod LeadingLemmas
 pub mod PlanningLemmas
 pub mod PlaceCounts
+pub mod MixLemmas
+pub mod KeptLemmas

@@ -6,3 +6,4 @@ pub mod Lists
 pub mod Debt
 pub mod Invariant
 pub mod Making
+pub mod States

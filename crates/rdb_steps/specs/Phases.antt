@@ -1,9 +1,11 @@
 -- What a record has in hand by what it is doing.
-use Rattle.std.specs.Prelude.{◌≡◌, ℕ, [], Bool, true, false, None, IsSome, IsSomeAnd}
+use Rattle.std.specs.Prelude.{◌≡◌, ℕ, [], Bool, true, false, Some, None, IsSome, IsSomeAnd}
 use Rattle.rdb_base.specs.declared.identity.Manager.{Manager}
 use Rattle.rdb_base.specs.declared.identity.Kind.TheVariants as kind
 use Rattle.rdb_base.specs.declared.identity.Phase.{Phase}
 use Rattle.rdb_base.specs.declared.identity.Phase.TheVariants as phase
+use Rattle.rdb_base.specs.Operations.{class_of as class_named}
+use Rattle.rdb_registry.specs.declared.hand.Work.{Work}
 use Rattle.rdb_registry.specs.declared.seat.Seat.{Seat}
 use Rattle.rdb_registry.specs.Seats.{HoldsLatch, all_latches}
 use Rattle.rdb_writes.specs.Steps.{spans_one_plan}
@@ -49,7 +51,8 @@ pub record IsBetween (manager : Manager) (classes : ℕ) (seat : Seat) : Type 0 
   pub undo : seat.condemned ≡ None → spans_one_plan manager ≡ true → seat.hand.undo.pairs ≡ []
   pub latches : seat.condemned ≡ None → HoldsBetween manager classes seat
 
--- A writer has an operation in work, until it is condemned, and then the latch of its class, under MVCC alone.
+-- A writer has an operation in work, until it is condemned, and then the latch of its class, under MVCC alone. The operation's own version
+-- is planned only while its plan is at hand.
 pub record IsWriting (manager : Manager) (classes : ℕ) (seat : Seat) : Type 0 where
   pub writer : IsWriter seat false
   pub cause : seat.hand.cause ≡ None
@@ -57,6 +60,8 @@ pub record IsWriting (manager : Manager) (classes : ℕ) (seat : Seat) : Type 0 
   pub one : seat.condemned ≡ None → spans_one_plan manager ≡ true → (class other : ℕ) → HoldsLatch seat class
       → HoldsLatch seat other → class ≡ other
   pub undo : seat.condemned ≡ None → spans_one_plan manager ≡ true → seat.hand.plan.pairs ≡ [] → seat.hand.undo.pairs ≡ []
+  pub latch : (work : Work) → seat.hand.work ≡ Some work → HoldsLatch seat (class_named work.op)
+  pub unplanned : (work : Work) → seat.condemned ≡ None → seat.hand.work ≡ Some work → seat.hand.plan.pairs ≡ [] → work.puts ≡ None
   pub all : seat.condemned ≡ None → spans_one_plan manager ≡ false → seat.latches ≡ all_latches classes
 
 -- A writer takes back what it wrote. Under MVCC it holds a latch exactly while the drop of a version is planned; under MURSIW it has all

@@ -1,5 +1,5 @@
 -- What the plan of a record leads to, beside its own writes and beside what others wrote.
-use Rattle.std.specs.Prelude.{◌≡◌, ◌≢◌, ◌==◌, ◌&&◌, ℕ, Bool, true, false, not, List, [], drop, filter, Option, Some, None, if◌then◌else◌}
+use Rattle.std.specs.Prelude.{◌≡◌, ◌≢◌, ◌==◌, ◌&&◌, ℕ, Bool, true, false, not, List, [], drop, filter, Option, Some, None, IsSomeAnd, slice_get, if◌then◌else◌}
 use Rattle.std.specs.Option.{option_map}
 use Rattle.rdb_base.specs.declared.identity.Manager.{Manager}
 use Rattle.rdb_base.specs.declared.identity.TxId.{TxId}
@@ -74,12 +74,18 @@ abbrev pub LeavesAllOthers : Seat → Versions → Versions → Type 0
 LeavesAllOthers seat settled aimed = (t : Transaction) → seat.transaction ≡ Some t → (class id : ℕ) → HoldsLatch seat class →
     all_but (tx_of seat t) (chain_in aimed class id) ≡ all_but (tx_of seat t) (chain_in settled class id)
 
+-- the first object that a connection wrote is of a class whose latch it holds
+abbrev pub HoldsFirst : Seat → Type 0
+HoldsFirst seat = IsSomeAnd (slice_get seat.hand.own.items 0) (λ own. HoldsLatch seat own.class)
+
 -- What the plan of a record whose aims are spoken of leads to, while a part of it isn't written: to the own writes that it will have; under
--- MVCC to nothing of others that isn't done, and to nothing of others at all where a version of its own is dropped.
+-- MVCC to nothing of others that isn't done, and to nothing of others at all where a version of its own is dropped, which is that of the
+-- first object that it wrote.
 pub record PlanLeads (manager : Manager) (seat : Seat) (settled aimed : Versions) : Type 0 where
   pub own : WillOwn manager seat aimed
   pub others : spans_one_plan manager ≡ true → LeavesOthers seat settled aimed
   pub drop : spans_one_plan manager ≡ true → is_dropping seat.hand ≡ true → LeavesAllOthers seat settled aimed
+  pub first : is_dropping seat.hand ≡ true → HoldsFirst seat
 
 abbrev pub PlanIsGood : Manager → Seat → Versions → Versions → Type 0
 PlanIsGood manager seat settled aimed = aims manager seat ≡ true → is_written seat.hand ≡ false → PlanLeads manager seat settled aimed

@@ -23,4 +23,5 @@ AreOfTwo v w = (tx : TxId) → v.stamp ≡ stamp.By tx → w.stamp ≡ stamp.By 
 -- no object has two versions of one open transaction, and each version that isn't done is of a transaction that is open
 pub record AreStamped (seats : Seats) (versions : Versions) : Type 0 where
   pub once : (class id : ℕ) → AllPairs AreOfTwo (chain_in versions class id)
-  pub open_ones : (class id : ℕ) (v : Version) (tx : TxId) → Contains (chain_in versions class id) v → v.stamp ≡ stamp.By tx → IsOpen seats tx
+  pub open_ones : (class id : ℕ) (v : Version) (tx : TxId) → Contains (chain_in versions class id) v → v.stamp ≡ stamp.By tx
+      → IsOpen seats tx

@@ -15,6 +15,7 @@
 #![tactic(auto)]
 
 mod laws;
+mod state;
 
 pub use laws::{
     a_cell_taken_back_leaves_the_settled, a_drop_leads_to_the_rest,
@@ -24,3 +25,4 @@ pub use laws::{
     cells_that_come_leave_the_lists, debt_is_bounded, latches_leave_the_settled,
     own_writes_follow_the_versions,
 };
+pub use state::{Counters, State};
