@@ -16,3 +16,4 @@ pub mod PlanningLemmas
 pub mod PlaceCounts
 pub mod MixLemmas
 pub mod KeptLemmas
+pub mod DroppingLemmas

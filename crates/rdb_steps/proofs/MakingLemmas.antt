@@ -22,7 +22,7 @@ use Rattle.rdb_store.specs.Stored.{HasVersion, ref_of}
 use Rattle.rdb_writes.specs.Grounds.{Ground, HaveOneHolder}
 use Rattle.rdb_writes.specs.Steps.{spans_one_plan, is_written}
 use Rattle.rdb_writes.proofs.WorkLemmas.{in_its_slot}
-use Rattle.rdb_steps.specs.Invariant.{IsKept, IsSingle}
+use Rattle.rdb_steps.specs.Invariant.{IsKept, IsSingle, DropsNone}
 use Rattle.rdb_steps.specs.Kept.{Agrees, OwnAre, Owns, AreDrawn, HasNoVersion, aims, is_marked, owns_settled, takes_back, tx_of}
 use Rattle.rdb_steps.specs.Phases.{Rests}
 use Rattle.rdb_steps.specs.Planned.{PlanLeads, PlanIsGood, IsWithin, header_after, all_but}
@@ -140,6 +140,7 @@ pub record MakesChain (schema : Schema) (manager : Manager) (serials : ℕ) (ids
   pub settled_same : owns_settled manager now ≡ owns_settled manager seat
   pub unwritten : is_written now.hand ≡ false
   pub leads : PlanLeads manager now settled (with_chain_in aimed class id chain)
+  pub drops : DropsNone manager now
   pub rests : Rests manager (length schema.classes) now
   pub once : AllPairs AreOfTwo chain
   pub open_ones : (v : Version) (tx : TxId) → Contains chain v → v.stamp ≡ stamp.By tx → IsOpen before.seats tx
@@ -201,6 +202,7 @@ module _ (schema : Schema) (manager : Manager) (serials serials_now : ℕ) (ids 
     ];
     others = λ spans u open_s other differs k j held. ap (own_version other) (chain_stays i s ne there k j held) ∙ was.others spans u open_s other differs k j held;
     drop = λ spans dropping u open_s k j held. ap (all_but (tx_of s u)) (chain_stays i s ne there k j held) ∙ was.drop spans dropping u open_s k j held;
+    first = was.first;
   }
 
   stamped_now : AreStamped after.seats (with_chain_in aimed class id chain)
@@ -232,6 +234,10 @@ module _ (schema : Schema) (manager : Manager) (serials serials_now : ℕ) (ids 
     plans = λ i s there. elim (which i slot) [
       | inl same ↦ subst (λ (x : Seat). PlanIsGood manager x settled (with_chain_in aimed class id chain)) (sym (mine before.seats after.seats slot seat now one i s same there)) (λ speaks unwritten. makes.leads)
       | inr ne ↦ plans_other i s ne there
+    ];
+    drops = λ i s there. elim (which i slot) [
+      | inl same ↦ subst (λ (x : Seat). DropsNone manager x) (sym (mine before.seats after.seats slot seat now one i s same there)) makes.drops
+      | inr ne ↦ kept.drops i s (there_before i s ne there)
     ];
     rests = λ i s there. elim (which i slot) [
       | inl same ↦ subst (λ (x : Seat). Rests manager (length schema.classes) x) (sym (mine before.seats after.seats slot seat now one i s same there)) makes.rests

@@ -23,7 +23,7 @@ use Rattle.rdb_registry.specs.declared.hand.Hand.{Hand}
 use Rattle.rdb_space.specs.Heads.{head_at, place_of_head}
 use Rattle.rdb_space.specs.Memory.{RegionCells, image_of}
 use Rattle.rdb_writes.specs.Grounds.{WorksOn, HasPlaces}
-use Rattle.rdb_steps.specs.Places.{cell_count}
+use Rattle.rdb_steps.specs.States.{cell_count}
 
 -- the place of a head among all heads
 head_place : List (List Cell) → ℕ → ℕ → ℕ
@@ -69,7 +69,7 @@ same_head (own ∷ heads) (suc class) place (suc other) there at at_other e =
 
 -- the place of a cell among all cells of the region
 place_in : RegionCells → ℕ → ℕ
-place_in m n = if nat_lt n first_head then n - 1 else page_cells * length m.pages + head_place m.heads (class_of_head n) (place_of_head n)
+place_in m n = cond (nat_lt n first_head) (n - 1) (page_cells * length m.pages + head_place m.heads (class_of_head n) (place_of_head n))
 
 and_then_some : {A B : Type 0} (f : A → Option B) (o : Option A) → IsSome (option_and_then f o) → (x : A) × (o ≡ Some x) × IsSome (f x)
 and_then_some f None some = absurd (false≢true some)
@@ -234,16 +234,14 @@ module _ (m : RegionCells) where
   named_both : (logged plan : List Pair) (n : ℕ) → names (filter (lacking logged) plan ++ logged) n ≡ true → (names plan n ≡ true) ⊎ (names logged n ≡ true)
   unfolding lacking
   named_both logged [] n e = inr e
-  named_both logged (p ∷ plan) n e = go (names logged p.at.number) e
+  named_both logged (p ∷ plan) n e = go (names logged p.at.number) (λ f. named_more p (named_both logged plan n f)) e
     where
-      rest : names (filter (lacking logged) plan ++ logged) n ≡ true → (names (p ∷ plan) n ≡ true) ⊎ (names logged n ≡ true)
-      rest f = elim (named_both logged plan n f) [
-        | inl named ↦ inl (any_right (p.at.number == n) (names plan n) named)
-        | inr named ↦ inr named
-      ]
-      go : (b : Bool) → names (cond (not b) (p ∷ filter (lacking logged) plan) (filter (lacking logged) plan) ++ logged) n ≡ true → (names (p ∷ plan) n ≡ true) ⊎ (names logged n ≡ true)
-      go true f = rest f
-      go false f = elim (or_cases (p.at.number == n) (names (filter (lacking logged) plan ++ logged) n) f) [
+      named_more : (q : Pair) → (names plan n ≡ true) ⊎ (names logged n ≡ true) → (names (q ∷ plan) n ≡ true) ⊎ (names logged n ≡ true)
+      named_more q (inl named) = inl (any_right (q.at.number == n) (names plan n) named)
+      named_more q (inr named) = inr named
+      go : (b : Bool) → (names (filter (lacking logged) plan ++ logged) n ≡ true → (names (p ∷ plan) n ≡ true) ⊎ (names logged n ≡ true)) → names (cond (not b) (p ∷ filter (lacking logged) plan) (filter (lacking logged) plan) ++ logged) n ≡ true → (names (p ∷ plan) n ≡ true) ⊎ (names logged n ≡ true)
+      go true rest f = rest f
+      go false rest f = elim (or_cases (p.at.number == n) (names (filter (lacking logged) plan ++ logged) n) f) [
         | inl here ↦ inl (or_left (p.at.number == n) (names plan n) here)
         | inr later ↦ rest later
       ]

@@ -3,7 +3,7 @@ use Rattle.std.proofs.Common.{◌≡◌, ◌≢◌, ◌⊎◌, ◌<◌, ◌≤�
 use Rattle.std.specs.Int.{bit_at}
 use Rattle.std.proofs.lemmas.Nat.Bits.{bit_at-zero, bit_at_or, bit_at-lt, bit_at-pow_same, bit_at-pow_other}
 use Rattle.std.proofs.Permutation.{which}
-use Rattle.std.proofs.lemmas.Bool.{false≢true, ne_eqb, or_right}
+use Rattle.std.proofs.lemmas.Bool.{false≢true, ne_eqb, and_right, or_left, or_right}
 use Rattle.std.proofs.lemmas.List.{nil_from_length}
 use Rattle.std.proofs.lemmas.List.Elements.{Contains-append_cases}
 use Rattle.rdb_base.specs.declared.identity.ConnId.{ConnId}
@@ -18,7 +18,7 @@ use Rattle.rdb_base.specs.Operations.{class_of as class_named}
 use Rattle.rdb_pages.specs.declared.cell.CellRef.{CellRef}
 use Rattle.rdb_schema.specs.declared.schema.Schema.{Schema}
 use Rattle.rdb_cells.specs.declared.pairs.Pair.{Pair}
-use Rattle.rdb_cells.specs.Records.{Record, planned}
+use Rattle.rdb_cells.specs.Records.{Record, names, planned}
 use Rattle.rdb_cells.proofs.SettledLemmas.{true_or_false}
 use Rattle.rdb_registry.specs.declared.hand.Hand.{Hand}
 use Rattle.rdb_registry.specs.declared.hand.Work.{Work}
@@ -26,15 +26,14 @@ use Rattle.rdb_registry.specs.declared.own_writes.OwnWrite.{OwnWrite}
 use Rattle.rdb_registry.specs.declared.seat.Seat.{Seat}
 use Rattle.rdb_registry.specs.declared.seat.Transaction.{Transaction}
 use Rattle.rdb_registry.specs.OwnWrites.{AreOrdered, header_of, object_of, is_of}
-use Rattle.rdb_registry.specs.Seats.{Seats, seat_in, seat_of, HoldsLatch, NoOtherHolds, with_latches, with_latch, add_latch}
-use Rattle.rdb_registry.proofs.OwnLemmas.{of_itself}
+use Rattle.rdb_registry.specs.Seats.{Seats, seat_in, seat_of, HoldsLatch, NoOtherHolds, with_hand, with_latches, with_latch, add_latch}
 use Rattle.rdb_registry.proofs.RecordLaws.{changed_here}
 use Rattle.rdb_registry.proofs.SlotLemmas.{seat_in_other}
 use Rattle.rdb_sight.specs.Versions.{Version, Object, Versions, IsAscending, objects_in, chain_in, chain_of, with_chain, with_chain_in, own_version}
 use Rattle.rdb_store.specs.Stored.{ref_of}
 use Rattle.rdb_store.proofs.ChainMaps.{chain_same, rises_from}
-use Rattle.rdb_writes.specs.Changes.{ChangesHand, ChangesLatches}
-use Rattle.rdb_writes.specs.Grounds.{Ground, HaveOneHolder}
+use Rattle.rdb_writes.specs.Changes.{SameCells, ChangesHand, ChangesLatches}
+use Rattle.rdb_writes.specs.Grounds.{Ground, HaveOneHolder, HasPlaces}
 use Rattle.rdb_writes.specs.Steps.{spans_one_plan, is_written}
 use Rattle.rdb_writes.proofs.WorkLemmas.{in_its_slot}
 use Rattle.rdb_steps.specs.Invariant.{IsKept}
@@ -45,7 +44,7 @@ use Rattle.rdb_steps.specs.Phases.{Rests, RestsIn, IsWriting, IsBetween, IsRolli
 use Rattle.rdb_steps.specs.Planned.{PlanLeads, all_but, object_named, IsWithin}
 use Rattle.rdb_steps.specs.Stamped.{IsOpen, AreOfTwo}
 use Rattle.rdb_steps.proofs.LatchLemmas.{latches_taken}
-use Rattle.rdb_steps.proofs.LeadingLemmas.{put_leads, garbage_leads, drop_leads}
+use Rattle.rdb_steps.proofs.LeadingLemmas.{is_of_it, put_leads, garbage_leads, drop_leads}
 use Rattle.rdb_steps.proofs.ListLemmas.{holds_same}
 use Rattle.rdb_steps.proofs.MakingLemmas.{OneChanges, MakesChain, own_open, plan_kept}
 use Rattle.rdb_steps.proofs.OwnChains.{once_put, once_left, once_without, within_left, within_without, longer_with, none_left}
@@ -54,7 +53,7 @@ use Rattle.rdb_steps.proofs.PlanLemmas.{plan_lists}
 use Rattle.rdb_steps.proofs.RestingLemmas.{same_at_rest, stands_now, ascends, owned_at_rest}
 
 -- a plan that leads elsewhere has a cell
-leads_elsewhere : (schema : Schema) → IsLawful schema → (g : Ground) (pairs : List Pair) (class id : ℕ) (was chain : List Version) (objects : List Object) → class < length schema.classes →
+pub leads_elsewhere : (schema : Schema) → IsLawful schema → (g : Ground) (pairs : List Pair) (class id : ℕ) (was chain : List Version) (objects : List Object) → class < length schema.classes →
     LeadsTo schema g pairs class id was chain → HoldsClass schema g g.image class objects → IsAscending objects → chain_of objects id ≡ was → chain ≢ was → ¬ (pairs ≡ [])
 leads_elsewhere schema lawful g pairs class id was chain objects within leads holds ascending is differs none =
     let then_holds : HoldsClass schema g g.image class (with_chain objects id chain) =
@@ -63,11 +62,11 @@ leads_elsewhere schema lawful g pairs class id was chain objects within leads ho
     let same : with_chain objects id chain ≡ objects = (lawful class within).one g.image g.class_of (with_chain objects id chain) objects then_holds holds in
     differs (sym (chain_same objects id chain (rises_from objects ascending)) ∙ ap (λ (os : List Object). chain_of os id) same ∙ is)
 
-unwritten_if : (pairs : List Pair) → ¬ (pairs ≡ []) → (length pairs == 0) ≡ false
+pub unwritten_if : (pairs : List Pair) → ¬ (pairs ≡ []) → (length pairs == 0) ≡ false
 unwritten_if pairs some = ne_eqb (length pairs) 0 (λ e. some (nil_from_length pairs e))
 
 -- a hand is another in its slot
-hand_changes : (before after : Ground) (c : ConnId) (seat : Seat) (hand : Hand) → ChangesHand before after c seat hand → OneChanges before.seats after.seats c.slot seat (record seat { hand = hand })
+pub hand_changes : (before after : Ground) (c : ConnId) (seat : Seat) (hand : Hand) → ChangesHand before after c seat hand → OneChanges before.seats after.seats c.slot seat (record seat { hand = hand })
 hand_changes before after c seat hand changes = let at = in_its_slot before.seats c seat changes.held in record {
   at = at;
   at_now =
@@ -99,6 +98,37 @@ has_one : (newer : List Version) (v : Version) (older : List Version) → newer 
 has_one [] v older e = cc
 has_one (w ∷ newer) v older e = cc
 
+-- A plan was laid in a hand: no cell is written, its cells are of the class, there are places for it, and it leads from whatever the class
+-- holds to another chain of an object.
+pub record MakesLaid (schema : Schema) (before after : Ground) (c : ConnId) (seat : Seat) (hand : Hand) (class id : ℕ) (was chain : List Version) : Type 0 where
+  pub cells : SameCells before after
+  pub records : after.seats ≡ with_hand before.seats c.slot hand
+  pub only : (n : ℕ) → names hand.plan.pairs n ≡ true → before.class_of n ≡ Some class
+  pub places : HasPlaces hand
+  pub leads : LeadsTo schema before hand.plan.pairs class id was chain
+  pub one_holder : HaveOneHolder after.seats
+
+-- and the chain is another one
+pub record IsLaid (schema : Schema) (before after : Ground) (c : ConnId) (seat : Seat) (hand : Hand) (class id : ℕ) (was chain : List Version) : Type 0 where
+  pub cells : SameCells before after
+  pub records : after.seats ≡ with_hand before.seats c.slot hand
+  pub only : (n : ℕ) → names hand.plan.pairs n ≡ true → before.class_of n ≡ Some class
+  pub places : HasPlaces hand
+  pub leads : LeadsTo schema before hand.plan.pairs class id was chain
+  pub one_holder : HaveOneHolder after.seats
+  pub differs : chain ≢ was
+
+is_laid : (schema : Schema) (before after : Ground) (c : ConnId) (seat : Seat) (hand : Hand) (class id : ℕ) (was chain : List Version) → MakesLaid schema before after c seat hand class id was chain → chain ≢ was → IsLaid schema before after c seat hand class id was chain
+is_laid schema before after c seat hand class id was chain makes differs = record {
+  cells = makes.cells;
+  records = makes.records;
+  only = makes.only;
+  places = makes.places;
+  leads = makes.leads;
+  one_holder = makes.one_holder;
+  differs = differs;
+}
+
 -- a connection that writes and wasn't condemned, has an operation in work and no plan
 module _ (schema : Schema) (manager : Manager) (serials : ℕ) (ids : List ℕ) (before after : Ground) (c : ConnId) (seat : Seat) (settled aimed : Versions)
     (lawful : IsLawful schema) (kept : IsKept schema manager serials ids before settled aimed)
@@ -128,16 +158,42 @@ module _ (schema : Schema) (manager : Manager) (serials : ℕ) (ids : List ℕ) 
   ascending : (class : ℕ) → class < length schema.classes → HoldsLatch seat class → IsAscending (objects_in aimed class)
   ascending class within held = ascends schema manager before settled aimed c.slot seat lawful kept.one_holder kept.agrees at no_plan (inl speaks) class within held
 
+  latch_here : (class : ℕ) → class_named was.op ≡ class → HoldsLatch seat class
+  latch_here class of_class = subst (λ (k : ℕ). HoldsLatch seat k) of_class (writing.latch was in_work)
+
   -- a hand with a plan, and with the operation as it is then
   module _ (class id : ℕ) (chain : List Version) (plan : Record) (work : Work)
       (within : class < length schema.classes) (same_class : class_named work.op ≡ class_named was.op) (of_class : class_named was.op ≡ class)
-      (lays : LaysPlan schema manager before after c seat (with_plan plan (Some work) seat.hand) class id (chain_in aimed class id) chain)
-      (one_after : HaveOneHolder after.seats) (differs : chain ≢ chain_in aimed class id) where
+      (laid : IsLaid schema before after c seat (with_plan plan (Some work) seat.hand) class id (chain_in aimed class id) chain) where
+    latch : HoldsLatch seat class
+    latch = latch_here class of_class
+
+    lays : LaysPlan schema manager before after c seat (with_plan plan (Some work) seat.hand) class id (chain_in aimed class id) chain
+    lays = record {
+      changes = record {
+        cells = laid.cells;
+        held = held;
+        records = laid.records;
+        latched = λ n on. elim on [
+          | inl logged ↦ (kept.agrees.works c.slot seat at).latched n (inl logged)
+          | inr planned_there ↦ (class, laid.only n planned_there, latch)
+        ];
+        places = laid.places;
+      };
+      undo = refl;
+      had_none = no_plan;
+      stands = inl speaks;
+      aims = or_right (is_dropping (with_plan plan (Some work) seat.hand)) (not (takes_back manager seat)) (ap not takes_none);
+      latch = latch;
+      only = laid.only;
+      leads = laid.leads;
+    }
+
     some_cell : ¬ (plan.pairs ≡ [])
     some_cell =
-        leads_elsewhere schema lawful before plan.pairs class id (chain_in aimed class id) chain (objects_in aimed class) within lays.leads
-        (stands_now schema manager before settled aimed c.slot seat lawful kept.one_holder kept.agrees at no_plan (inl speaks) class within lays.latch)
-        (ascending class within lays.latch) refl differs
+        leads_elsewhere schema lawful before plan.pairs class id (chain_in aimed class id) chain (objects_in aimed class) within laid.leads
+        (stands_now schema manager before settled aimed c.slot seat lawful kept.one_holder kept.agrees at no_plan (inl speaks) class within latch)
+        (ascending class within latch) refl laid.differs
 
     rests_now : Rests manager (length schema.classes) (record seat { hand = with_plan plan (Some work) seat.hand })
     rests_now = subst (λ (p : Phase). RestsIn manager (length schema.classes) (record seat { hand = with_plan plan (Some work) seat.hand }) p) (sym phase_is) (record {
@@ -146,7 +202,7 @@ module _ (schema : Schema) (manager : Manager) (serials : ℕ) (ids : List ℕ) 
       work = λ e. refl;
       latch = λ w is.
           let same : w ≡ work = let both : Some w ≡ Some work = sym is in cc in
-          subst (λ (k : ℕ). HoldsLatch seat k) (sym (ap (λ (x : Work). class_named x.op) same ∙ same_class ∙ of_class)) lays.latch;
+          subst (λ (k : ℕ). HoldsLatch seat k) (sym (ap (λ (x : Work). class_named x.op) same ∙ same_class ∙ of_class)) latch;
       unplanned = λ w e is empty. absurd (some_cell empty);
       one = writing.one;
       undo = λ e spans empty. absurd (some_cell empty);
@@ -164,19 +220,20 @@ module _ (schema : Schema) (manager : Manager) (serials : ℕ) (ids : List ℕ) 
         plan_kept schema manager serials serials_now ids ids_now before after c.slot seat (record seat { hand = with_plan plan (Some work) seat.hand }) settled aimed class id chain kept more_serials more_ids
         (hand_changes before after c seat (with_plan plan (Some work) seat.hand) lays.changes)
         (record {
-          one_holder = one_after;
+          one_holder = laid.one_holder;
           open_one = t;
           opened = opened;
           writes = writer_open seat t opened writing.writer.0;
-          latch = lays.latch;
+          latch = latch;
           within = within;
-          ascending = ascending class within lays.latch;
+          ascending = ascending class within latch;
           lists = plan_lists schema manager before after c seat (with_plan plan (Some work) seat.hand) class id (chain_in aimed class id) chain lawful kept.one_holder kept.agrees.works lays within settled aimed kept.agrees refl;
           own_same = refl;
           undo_same = refl;
           settled_same = refl;
           unwritten = unwritten_if plan.pairs some_cell;
           leads = leads;
+          drops = λ alone. and_right (not (length plan.pairs == 0)) false refl;
           rests = rests_now;
           once = once;
           open_ones = opens;
@@ -197,16 +254,17 @@ module _ (schema : Schema) (manager : Manager) (serials : ℕ) (ids : List ℕ) 
   -- the plan of the operation: a version comes first in its object's chain
   pub put_kept : (serials_now : ℕ) (ids_now : List ℕ) (class id : ℕ) (plan : Record) (op : Op) (header : CellRef) (v : Version) → class < length schema.classes → class_named op ≡ class_named was.op → class_named was.op ≡ class
       → (object_named op).1 ≡ id
-      → LaysPlan schema manager before after c seat (with_plan plan (Some (record { op = op; bytes = was.bytes; puts = Some header })) seat.hand) class id (chain_in aimed class id) (v ∷ all_but (tx_of seat t) (chain_in aimed class id))
-      → HaveOneHolder after.seats → v.header ≡ header.number → v.stamp ≡ stamp.By (tx_of seat t) → serials < v.serial → v.serial ≤ serials_now
+      → MakesLaid schema before after c seat (with_plan plan (Some (record { op = op; bytes = was.bytes; puts = Some header })) seat.hand) class id (chain_in aimed class id) (v ∷ all_but (tx_of seat t) (chain_in aimed class id))
+      → v.header ≡ header.number → v.stamp ≡ stamp.By (tx_of seat t) → serials < v.serial → v.serial ≤ serials_now
       → ((k : ℕ) → slice_index ids k ≤ slice_index ids_now k) → id ≤ slice_index ids_now class
       → IsKept schema manager serials_now ids_now after settled (with_put aimed class id (tx_of seat t) v)
-  put_kept serials_now ids_now class id plan op header v within same_class of_class of_id lays one_after there by fresh drawn more_ids id_drawn =
-      written_on class id (v ∷ all_but (tx_of seat t) (chain_in aimed class id)) plan (record { op = op; bytes = was.bytes; puts = Some header }) within same_class of_class lays one_after
-      (λ same. let old = drawn_before class id v (subst (λ (vs : List Version). Contains vs v) same (first_within v (all_but (tx_of seat t) (chain_in aimed class id)))) in absurd (omega (arith, old, fresh)))
+  put_kept serials_now ids_now class id plan op header v within same_class of_class of_id makes there by fresh drawn more_ids id_drawn =
+      written_on class id (v ∷ all_but (tx_of seat t) (chain_in aimed class id)) plan (record { op = op; bytes = was.bytes; puts = Some header }) within same_class of_class
+      (is_laid schema before after c seat (with_plan plan (Some (record { op = op; bytes = was.bytes; puts = Some header })) seat.hand) class id (chain_in aimed class id) (v ∷ all_but (tx_of seat t) (chain_in aimed class id)) makes
+      (λ same. let old = drawn_before class id v (subst (λ (vs : List Version). Contains vs v) same (first_within v (all_but (tx_of seat t) (chain_in aimed class id)))) in absurd (omega (arith, old, fresh))))
       serials_now ids_now (omega (arith, fresh, drawn)) more_ids
       (put_leads manager seat (record seat { hand = with_plan plan (Some (record { op = op; bytes = was.bytes; puts = Some header })) seat.hand }) settled aimed class id (v ∷ all_but (tx_of seat t) (chain_in aimed class id)) t
-      opened refl refl (in_aimed class within) (ascending class within lays.latch) (owned_here (record seat { hand = with_plan plan (Some (record { op = op; bytes = was.bytes; puts = Some header })) seat.hand }) refl) same_here
+      opened refl refl (in_aimed class within) (ascending class within (latch_here class of_class)) (owned_here (record seat { hand = with_plan plan (Some (record { op = op; bytes = was.bytes; puts = Some header })) seat.hand }) refl) same_here
       plan op was.bytes header v refl (same_class ∙ of_class) of_id there by refl)
       (once_put (tx_of seat t) v (chain_in aimed class id) by (kept.stamped_aimed.once class id))
       (λ w tx within_chain by_tx. elim (Contains-append_cases (v ∷ []) (all_but (tx_of seat t) (chain_in aimed class id)) w within_chain) [
@@ -226,16 +284,16 @@ module _ (schema : Schema) (manager : Manager) (serials : ℕ) (ids : List ℕ) 
   -- the plan of a garbage version's drop
   pub garbage_kept : (class id : ℕ) (plan : Record) (newer older : List Version) (v : Version) (commit : ℕ) → class < length schema.classes → class_named was.op ≡ class → was.puts ≡ None
       → chain_in aimed class id ≡ newer ++ v ∷ older → v.stamp ≡ stamp.Done commit
-      → LaysPlan schema manager before after c seat (with_plan plan (Some was) seat.hand) class id (chain_in aimed class id) (newer ++ older)
-      → HaveOneHolder after.seats
+      → MakesLaid schema before after c seat (with_plan plan (Some was) seat.hand) class id (chain_in aimed class id) (newer ++ older)
       → IsKept schema manager serials ids after settled (with_chain_in aimed class id (newer ++ older))
-  garbage_kept class id plan newer older v commit within of_class unput split done lays one_after =
-      written_on class id (newer ++ older) plan was within refl of_class lays one_after
-      (λ same. longer_with newer v older (same ∙ split))
+  garbage_kept class id plan newer older v commit within of_class unput split done makes =
+      written_on class id (newer ++ older) plan was within refl of_class
+      (is_laid schema before after c seat (with_plan plan (Some was) seat.hand) class id (chain_in aimed class id) (newer ++ older) makes
+      (λ same. longer_with newer v older (same ∙ split)))
       serials ids (omega arith) (λ k. omega arith)
       (garbage_leads manager seat (record seat { hand = with_plan plan (Some was) seat.hand }) settled aimed class id (newer ++ older) t
-      opened refl refl (in_aimed class within) (ascending class within lays.latch) (owned_here (record seat { hand = with_plan plan (Some was) seat.hand }) refl) same_here
-      plan was.op was.bytes newer older v commit (λ i. with_plan plan (Some (record { op = was.op; bytes = was.bytes; puts = unput i })) seat.hand) lays.latch done split refl)
+      opened refl refl (in_aimed class within) (ascending class within (latch_here class of_class)) (owned_here (record seat { hand = with_plan plan (Some was) seat.hand }) refl) same_here
+      plan was.op was.bytes newer older v commit (λ i. with_plan plan (Some (record { op = was.op; bytes = was.bytes; puts = unput i })) seat.hand) (latch_here class of_class) done split refl)
       (once_without newer v older (subst (λ (vs : List Version). AllPairs AreOfTwo vs) split (kept.stamped_aimed.once class id)))
       (λ w tx within_chain by. open_before class id w tx (still_there w within_chain) by)
       (λ w within_chain. drawn_before class id w (still_there w within_chain))
@@ -243,175 +301,3 @@ module _ (schema : Schema) (manager : Manager) (serials : ℕ) (ids : List ℕ) 
     where
       still_there : (w : Version) → Contains (newer ++ older) w → Contains (chain_in aimed class id) w
       still_there w there = subst (λ (vs : List Version). Contains vs w) (sym split) (within_without newer v older w there)
-
--- latches, where a connection that holds none takes one that nobody else holds
-only_class : (latches class k : ℕ) → latches ≡ 0 → bit_at (with_latch latches class) k ≡ 1 → k ≡ class
-only_class latches class k none held = elim (which k class) [
-  | inl same ↦ same
-  | inr ne ↦
-      let both : bit_at (with_latch latches class) k ≡ max (bit_at latches k) (bit_at (2 ^ class) k) = bit_at_or latches (2 ^ class) k in
-      let other : bit_at (2 ^ class) k ≡ 0 = bit_at-pow_other class k ne in
-      let before : bit_at latches k ≡ 0 = ap (λ (n : ℕ). bit_at n k) none ∙ bit_at-zero k in
-      absurd (omega (arith, both, other, before, held))
-]
-
-takes_class : (latches class : ℕ) → bit_at (with_latch latches class) class ≡ 1
-takes_class latches class =
-    let both : bit_at (with_latch latches class) class ≡ max (bit_at latches class) (bit_at (2 ^ class) class) = bit_at_or latches (2 ^ class) class in
-    let one : bit_at (2 ^ class) class ≡ 1 = bit_at-pow_same class in
-    let few = bit_at-lt latches class in
-    omega (arith, both, one, few)
-
-pub takes_free : (before : Ground) (c : ConnId) (seat : Seat) (class : ℕ) → seat_in before.seats c.slot ≡ Some seat → seat.latches ≡ 0 → NoOtherHolds before.seats c.slot class → TakesFree before seat (with_latch seat.latches class)
-takes_free before c seat class at none free = record {
-  keeps = λ k held.
-      let zero_bit : bit_at seat.latches k ≡ 0 = ap (λ (n : ℕ). bit_at n k) none ∙ bit_at-zero k in
-      absurd (omega (arith, held, zero_bit));
-  free = λ k held not_before i s there. elim (which i c.slot) [
-    | inl same ↦
-        let both : Some s ≡ Some seat = sym there ∙ ap (seat_in before.seats) same ∙ at in
-        let is : s ≡ seat = cc in
-        ap (λ (x : Seat). bit_at x.latches k) is ∙ ap (λ (n : ℕ). bit_at n k) none ∙ bit_at-zero k
-    | inr other ↦ subst (λ (k : ℕ). bit_at s.latches k ≡ 0) (sym (only_class seat.latches class k none held)) (free i s other there)
-  ];
-}
-
--- latches are others in their slot
-latch_changes : (before after : Ground) (slot : ℕ) (seat : Seat) (latches : ℕ) → ChangesLatches before after slot seat latches → OneChanges before.seats after.seats slot seat (with_latches latches seat)
-latch_changes before after slot seat latches changes = record {
-  at = changes.held;
-  at_now =
-      ap (λ (seats : Seats). seat_in seats slot) changes.records
-      ∙ changed_here before.seats slot (with_latches latches)
-      ∙ ap (option_map (with_latches latches)) changes.held;
-  others = λ i other.
-      ap (λ (seats : Seats). seat_in seats i) changes.records
-      ∙ seat_in_other before.seats slot i (option_map (with_latches latches) (seat_in before.seats slot)) other;
-  conn = refl;
-  transaction = refl;
-}
-
-then_changes : (before middle after : Seats) (slot : ℕ) (a b c : Seat) → OneChanges before middle slot a b → OneChanges middle after slot b c → OneChanges before after slot a c
-then_changes before middle after slot a b c first second = record {
-  at = first.at;
-  at_now = second.at_now;
-  others = λ i ne. second.others i ne ∙ first.others i ne;
-  conn = second.conn ∙ first.conn;
-  transaction = second.transaction ∙ first.transaction;
-}
-
--- a connection under MVCC that has neither plan nor pair nor latch drops the first version that its transaction wrote
-module _ (schema : Schema) (manager : Manager) (serials : ℕ) (ids : List ℕ) (before middle after : Ground) (c : ConnId) (seat : Seat) (settled aimed : Versions)
-    (lawful : IsLawful schema) (kept : IsKept schema manager serials ids before settled aimed)
-    (held : seat_of before.seats c ≡ Some seat) (spans : spans_one_plan manager ≡ true) (unmarked : is_marked seat ≡ false) (t : Transaction) (opened : seat.transaction ≡ Some t) (writes : t.kind ≡ kind.ReadWrite)
-    (no_plan : seat.hand.plan.pairs ≡ []) (empty : seat.hand.undo.pairs ≡ []) (no_latch : seat.latches ≡ 0)
-    (rolls : seat.condemned ≡ None → seat.hand.phase ≡ phase.RollingBack)
-    (class id : ℕ) (w : OwnWrite) (ws : List OwnWrite) (own_is : seat.hand.own.items ≡ w ∷ ws) (ordered : AreOrdered (w ∷ ws)) (of_class : w.class ≡ class) (of_id : w.id ≡ id)
-    (within : class < length schema.classes) (free : NoOtherHolds before.seats c.slot class)
-    (takes : ChangesLatches before middle c.slot seat (with_latch seat.latches class)) (one_middle : HaveOneHolder middle.seats) (one_after : HaveOneHolder after.seats)
-    (plan : Record) (lays : LaysPlan schema manager middle after c (add_latch class seat) (with_plan plan None seat.hand) class id (chain_in aimed class id) (all_but (tx_of seat t) (chain_in aimed class id))) where
-  at : seat_in before.seats c.slot ≡ Some seat
-  at = in_its_slot before.seats c seat held
-
-  agrees_middle : Agrees schema manager middle settled aimed
-  agrees_middle = latches_taken schema manager before middle c.slot seat (with_latch seat.latches class) lawful kept.agrees.works takes no_plan (takes_free before c seat class at no_latch free) settled aimed kept.agrees
-
-  at_middle : seat_in middle.seats c.slot ≡ Some (add_latch class seat)
-  at_middle = (latch_changes before middle c.slot seat (with_latch seat.latches class) takes).at_now
-
-  same_here : (k : ℕ) → HoldsLatch (add_latch class seat) k → objects_in aimed k ≡ objects_in settled k
-  same_here k held_now = same_at_rest schema manager middle settled aimed c.slot (add_latch class seat) lawful one_middle agrees_middle at_middle no_plan empty k held_now
-
-  owned_here : (k j : ℕ) → IsWithin manager (add_latch class seat) k → header_of seat.hand.own.items (k, j) ≡ option_map ref_of (own_version (tx_of seat t) (chain_in aimed k j))
-  owned_here =
-      owned_at_rest manager seat (add_latch class seat) settled aimed t (kept.own c.slot seat at) opened no_plan (λ spans_too. same_here)
-      (λ alone. absurd (false≢true (sym alone ∙ spans)))
-
-  latch : HoldsLatch (add_latch class seat) class
-  latch = takes_class seat.latches class
-
-  ascending : IsAscending (objects_in aimed class)
-  ascending = ascends schema manager middle settled aimed c.slot (add_latch class seat) lawful one_middle agrees_middle at_middle no_plan (inr empty) class within latch
-
-  -- the version is there, so the chain is another without it
-  header_is : header_of seat.hand.own.items (class, id) ≡ Some w.header
-  header_is =
-      ap (λ (o : List OwnWrite). header_of o (class, id)) own_is
-      ∙ ap (λ b. option_map (λ (x : OwnWrite). x.header) (cond b (Some w) (find (is_of (class, id)) ws))) (of_itself (class, id) w (λ i. (of_class i, of_id i)))
-
-  differs : all_but (tx_of seat t) (chain_in aimed class id) ≢ chain_in aimed class id
-  differs same =
-      let gone : option_map ref_of (own_version (tx_of seat t) (chain_in aimed class id)) ≡ None = ap (option_map ref_of) (sym (ap (own_version (tx_of seat t)) same) ∙ none_left (tx_of seat t) (chain_in aimed class id)) in
-      let both : Some w.header ≡ None = sym header_is ∙ owned_here class id (λ s. latch) ∙ gone in
-      absurd (let no_header : Some w.header ≡ None = both in cc)
-
-  some_cell : ¬ (plan.pairs ≡ [])
-  some_cell =
-      leads_elsewhere schema lawful middle plan.pairs class id (chain_in aimed class id) (all_but (tx_of seat t) (chain_in aimed class id)) (objects_in aimed class) within lays.leads
-      (stands_now schema manager middle settled aimed c.slot (add_latch class seat) lawful one_middle agrees_middle at_middle no_plan (inr empty) class within latch)
-      ascending refl differs
-
-  dropping : is_dropping (with_plan plan None seat.hand) ≡ true
-  dropping = ap (λ b. not b && true) (unwritten_if plan.pairs some_cell)
-
-  rests_in : (p : Phase) → RestsIn manager (length schema.classes) seat p → (seat.condemned ≡ None → p ≡ phase.RollingBack) → RestsIn manager (length schema.classes) (record (add_latch class seat) { hand = with_plan plan None seat.hand }) p
-  rests_in phase.Idle r p_rolls = absurd (let none : Some t ≡ None = sym opened ∙ r.transaction in cc)
-  rests_in (phase.Running kind.ReadOnly) r p_rolls =
-      absurd (let reads : kind.ReadOnly ≡ kind.ReadWrite = sym (subst (λ (o : Option Transaction). IsSomeAnd o (λ u. u.kind ≡ kind.ReadOnly)) opened r.reader) ∙ writes in cc)
-  rests_in (phase.Running kind.ReadWrite) r p_rolls = record {
-    writer = r.writer;
-    work = refl;
-    cause = r.cause;
-    plan = λ e. absurd (let no_way : phase.Running kind.ReadWrite ≡ phase.RollingBack = p_rolls e in cc);
-    undo = λ e. absurd (let no_way : phase.Running kind.ReadWrite ≡ phase.RollingBack = p_rolls e in cc);
-    latches = λ e. absurd (let no_way : phase.Running kind.ReadWrite ≡ phase.RollingBack = p_rolls e in cc);
-  }
-  rests_in phase.Writing r p_rolls = record {
-    writer = r.writer;
-    cause = r.cause;
-    work = λ e. absurd (let no_way : phase.Writing ≡ phase.RollingBack = p_rolls e in cc);
-    latch = λ x is. absurd (let none : None ≡ Some x = is in cc);
-    unplanned = λ x e is none. absurd (let no_way : phase.Writing ≡ phase.RollingBack = p_rolls e in cc);
-    one = λ e. absurd (let no_way : phase.Writing ≡ phase.RollingBack = p_rolls e in cc);
-    undo = λ e. absurd (let no_way : phase.Writing ≡ phase.RollingBack = p_rolls e in cc);
-    all = λ e. absurd (let no_way : phase.Writing ≡ phase.RollingBack = p_rolls e in cc);
-  }
-  rests_in phase.RollingBack r p_rolls = record {
-    writer = r.writer;
-    work = refl;
-    cause = r.cause;
-    free = λ e spans_too none. absurd (false≢true (sym none ∙ dropping));
-    plan = λ alone. absurd (false≢true (sym alone ∙ spans));
-    all = λ alone. absurd (false≢true (sym alone ∙ spans));
-  }
-  rests_in phase.Stamping r p_rolls = absurd (false≢true (sym unmarked ∙ r.writer.1))
-  rests_in phase.Condemned r p_rolls = absurd r
-  rests_in phase.Absent r p_rolls = absurd r
-
-  pub own_drop_kept : IsKept schema manager serials ids after settled (without_own aimed class id (tx_of seat t))
-  own_drop_kept =
-      plan_kept schema manager serials serials ids ids before after c.slot seat (record (add_latch class seat) { hand = with_plan plan None seat.hand }) settled aimed class id (all_but (tx_of seat t) (chain_in aimed class id)) kept (omega arith) (λ k. omega arith)
-      (then_changes before.seats middle.seats after.seats c.slot seat (add_latch class seat) (record (add_latch class seat) { hand = with_plan plan None seat.hand })
-      (latch_changes before middle c.slot seat (with_latch seat.latches class) takes) (hand_changes middle after c (add_latch class seat) (with_plan plan None seat.hand) lays.changes))
-      (record {
-        one_holder = one_after;
-        open_one = t;
-        opened = opened;
-        writes = writes;
-        latch = latch;
-        within = within;
-        ascending = ascending;
-        lists = plan_lists schema manager middle after c (add_latch class seat) (with_plan plan None seat.hand) class id (chain_in aimed class id) (all_but (tx_of seat t) (chain_in aimed class id)) lawful one_middle agrees_middle.works lays within settled aimed agrees_middle refl;
-        own_same = refl;
-        undo_same = refl;
-        settled_same = refl;
-        unwritten = unwritten_if plan.pairs some_cell;
-        leads =
-            drop_leads manager seat (record (add_latch class seat) { hand = with_plan plan None seat.hand }) settled aimed class id (all_but (tx_of seat t) (chain_in aimed class id)) t opened refl refl
-            (let count = kept.agrees.rest.count in omega (arith, count, within)) ascending owned_here (λ spans_too. same_here) plan w ws refl own_is ordered of_class of_id refl;
-        rests = rests_in seat.hand.phase (kept.rests c.slot seat at) rolls;
-        once = once_left (tx_of seat t) (chain_in aimed class id) (kept.stamped_aimed.once class id);
-        open_ones = λ v tx there by. kept.stamped_aimed.open_ones class id v tx (within_left (tx_of seat t) (chain_in aimed class id) v there) by;
-        serial_drawn = λ v there. kept.drawn_aimed.each_serial class v (record { id = id; within = within_left (tx_of seat t) (chain_in aimed class id) v there });
-        id_drawn = λ some. kept.drawn_aimed.each_id class id (λ none. some (ap (all_but (tx_of seat t)) none));
-      })

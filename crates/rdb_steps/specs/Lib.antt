@@ -7,3 +7,5 @@ pub mod Debt
 pub mod Invariant
 pub mod Making
 pub mod States
+pub mod Planning
+pub mod Laid

@@ -15,6 +15,9 @@
 #![tactic(auto)]
 
 mod laws;
+mod laying;
+mod operations;
+mod plan;
 mod state;
 
 pub use laws::{
