@@ -17,3 +17,4 @@ pub mod PlaceCounts
 pub mod MixLemmas
 pub mod KeptLemmas
 pub mod DroppingLemmas
+pub mod LaidLemmas

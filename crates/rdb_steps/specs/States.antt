@@ -103,9 +103,9 @@ abbrev pub ever_planned : Transactions → ℕ
 ever_planned t = MAX_OPERATIONS * length t.journal.entries + sum_by planned_in t.registry.seats
 
 -- No more serials were drawn, nor ids in a class, than operations were planned; and what a slot spent in a class is within their claims.
-pub record AreFewer (serials : ℕ) (ids : List ℕ) (t : Transactions) : Type 0 where
-  pub serials : serials ≤ ever_planned t
-  pub ids : (class : ℕ) → slice_index ids class ≤ ever_planned t
+pub record AreFewer (drawn_serials : ℕ) (drawn_ids : List ℕ) (t : Transactions) : Type 0 where
+  pub serials : drawn_serials ≤ ever_planned t
+  pub ids : (class : ℕ) → slice_index drawn_ids class ≤ ever_planned t
   pub spent : (slot class : ℕ) → spent_by t.registry.spent slot class ≤ max_plan * ever_planned t
 
 -- What is so of a World's state between two steps, whatever its cells hold: the store, the heads, the registry and the counters are those

@@ -1,6 +1,6 @@
 //! A plan on one class, over the cells as they stand, laid in a hand that has none. It reads cells, and changes nothing but the hand.
 
-ghost use Rattle.std.specs.Prelude.{◌≡◌, ◌≢◌, ◌≤◌, ◌<◌, ℕ, [], length, Some, None, IsSomeAnd, is_some, true, false};
+ghost use Rattle.std.specs.Prelude.{◌≡◌, ◌≢◌, ◌≤◌, ◌<◌, ℕ, List, [], length, Some, None, IsSomeAnd, is_some, true, false};
 ghost use Rattle.rdb_base.specs.declared.limits.TheConstants.{MAX_ROW};
 ghost use Rattle.rdb_base.specs.declared.value.Value.{Value};
 ghost use Rattle.rdb_base.specs.Operations.{is_write};
