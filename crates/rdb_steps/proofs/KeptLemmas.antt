@@ -1,5 +1,5 @@
 -- What every step keeps, as one record changes and both lists of versions are mixed: what it says of the other records follows.
-use Rattle.std.proofs.Common.{◌≡◌, ◌≢◌, ◌&&◌, ◌||◌, ◌==◌, ℕ, List, length, eq-eqb, Bool, true, false, cond, not, Option, Some, None, refl, sym, ap, subst, ◌∙◌, inl, inr, option_map}
+use Rattle.std.proofs.Common.{◌≡◌, ◌≢◌, ◌&&◌, ◌||◌, ◌==◌, ℕ, List, length, eq-eqb, Bool, true, false, cond, Some, None, refl, sym, ap, subst, ◌∙◌, inl, inr, option_map}
 use Rattle.std.proofs.lemmas.Bool.{false≢true}
 use Rattle.std.proofs.Permutation.{which}
 use Rattle.std.specs.List.{AllPairs}
@@ -13,9 +13,9 @@ use Rattle.rdb_schema.specs.declared.schema.Schema.{Schema}
 use Rattle.rdb_cells.proofs.SettledLemmas.{true_or_false}
 use Rattle.rdb_registry.specs.declared.seat.Seat.{Seat}
 use Rattle.rdb_registry.specs.declared.seat.Transaction.{Transaction}
-use Rattle.rdb_registry.specs.Seats.{Seats, EachSeat, HoldsLatch, seat_in, seat_of, if_conn}
+use Rattle.rdb_registry.specs.Seats.{Seats, EachSeat, HoldsLatch, seat_in, if_conn}
 use Rattle.rdb_registry.proofs.SlotLemmas.{if_conn_is}
-use Rattle.rdb_sight.specs.Versions.{Version, Object, Versions, objects_in, chain_of, chain_in, own_version}
+use Rattle.rdb_sight.specs.Versions.{Version, Object, Versions, chain_of, chain_in, own_version}
 use Rattle.rdb_store.specs.Stored.{ref_of}
 use Rattle.rdb_writes.specs.Grounds.{Ground, HaveOneHolder}
 use Rattle.rdb_writes.specs.Steps.{spans_one_plan}
@@ -60,9 +60,12 @@ module _ (before after : Seats) (slot : ℕ) (seat now : Seat) (t : Turns before
       (r : Seat) × (seat_in before i ≡ Some r) × (s.transaction ≡ r.transaction) × ((class : ℕ) → HoldsLatch s class → HoldsLatch r class)
   as_it_was i s at = elim (which i slot) [
     | inl same ↦
-        let is = mine i s same at in
-        (seat, ap (seat_in before) same ∙ t.was, ap (λ (x : Seat). x.transaction) is ∙ t.transaction,
-        λ class held. t.latches class (subst (λ (x : Seat). HoldsLatch x class) is held))
+        let is = mine i s same at in (
+          seat,
+          ap (seat_in before) same ∙ t.was,
+          ap (λ (x : Seat). x.transaction) is ∙ t.transaction,
+          λ class held. t.latches class (subst (λ (x : Seat). HoldsLatch x class) is held),
+        )
     | inr other ↦ (s, sym (t.others i other) ∙ at, refl, λ class held. held)
   ]
 
@@ -91,12 +94,12 @@ module _ (before after : Seats) (slot : ℕ) (seat now : Seat) (t : Turns before
           number = o.number;
         }
     | inr other ↦ record {
-        seat = o.seat;
-        transaction = o.transaction;
-        held = ap (option_and_then (if_conn tx.conn)) (t.others tx.conn.slot other) ∙ o.held;
-        open_one = o.open_one;
-        number = o.number;
-      }
+      seat = o.seat;
+      transaction = o.transaction;
+      held = ap (option_and_then (if_conn tx.conn)) (t.others tx.conn.slot other) ∙ o.held;
+      open_one = o.open_one;
+      number = o.number;
+    }
   ]
     where
       names_it : (c : ConnId) → now.conn ≡ c → if_conn c now ≡ Some now
@@ -132,19 +135,19 @@ module _ (schema : Schema) (manager : Manager) (serials : ℕ) (ids : List ℕ) 
   own_other : (i : ℕ) (s : Seat) → i ≢ slot → seat_in before.seats i ≡ Some s → OwnAre manager s settled aimed → OwnAre manager s settled_now aimed_now
   own_other i s other there own = elim (true_or_false (spans_one_plan manager)) [
     | inl many ↦ record {
-        are_settled = λ e u open_one class id.
-            own.are_settled e u open_one class id
-            ∙ ap (option_map ref_of) (sym (leaves many tx writes (tx_of s u) (another i s other there u) class id));
-        are_made = λ e. absurd (false≢true (sym e ∙ or_left (spans_one_plan manager) _ many));
-        none_settled = λ e. absurd (false≢true (sym e ∙ many));
-        none_logged = own.none_logged;
-      }
+      are_settled = λ e u open_one class id.
+          own.are_settled e u open_one class id
+          ∙ ap (option_map ref_of) (sym (leaves many tx writes (tx_of s u) (another i s other there u) class id));
+      are_made = λ e. absurd (false≢true (sym e ∙ or_left (spans_one_plan manager) _ many));
+      none_settled = λ e. absurd (false≢true (sym e ∙ many));
+      none_logged = own.none_logged;
+    }
     | inr single ↦ record {
-        are_settled = λ e u open_one. absurd (alone single i s other there u open_one);
-        are_made = λ e f g u open_one. absurd (alone single i s other there u open_one);
-        none_settled = λ e f u open_one. absurd (alone single i s other there u open_one);
-        none_logged = own.none_logged;
-      }
+      are_settled = λ e u open_one. absurd (alone single i s other there u open_one);
+      are_made = λ e f g u open_one. absurd (alone single i s other there u open_one);
+      none_settled = λ e f u open_one. absurd (alone single i s other there u open_one);
+      none_logged = own.none_logged;
+    }
   ]
 
   -- the classes of others are none of this connection's

@@ -18,3 +18,13 @@ pub mod MixLemmas
 pub mod KeptLemmas
 pub mod DroppingLemmas
 pub mod LaidLemmas
+pub mod WholeLemmas
+pub mod PageLemmas
+pub mod HandKept
+pub mod WriteLemmas
+pub mod StayLemmas
+pub mod ReleaseLemmas
+pub mod FirstLemmas
+pub mod StateWrites
+pub mod BackLemmas
+pub mod StateBacks

@@ -88,7 +88,7 @@ silent_before : (w spans b t : Bool) → (w && spans) ≡ false → (spans ≡ f
 silent_before false spans b t goes_on live e = e
 silent_before true spans b t goes_on live e = absurd (false≢true (sym e ∙ live goes_on))
 
-not_written : (ps : List Pair) (p : Pair) → (length (ps ++ p ∷ []) == 0) ≡ false
+pub not_written : (ps : List Pair) (p : Pair) → (length (ps ++ p ∷ []) == 0) ≡ false
 not_written ps p = let longer = longer_by_one ps p in ne_eqb (length (ps ++ p ∷ [])) 0 (λ e. omega (arith, e, longer))
 
 not_false : (b : Bool) → b ≡ false → not b ≡ true
@@ -141,7 +141,7 @@ module _ (schema : Schema) (manager : Manager) (before after : Ground) (c : Conn
 
 -- a cell of a plan
 module _ (schema : Schema) (manager : Manager) (before after : Ground) (c : ConnId) (is_last : Bool) (lawful : IsLawful schema) (one : HaveOneHolder before.seats) (works_after : AreWorks after) (w : WritesNext manager before after c is_last) where
-  written_same : is_written (ended manager w.written) ≡ is_written w.written
+  pub written_same : is_written (ended manager w.written) ≡ is_written w.written
   written_same = go (ends manager w.written)
     where
       go : (b : Bool) → is_written (cond b (record w.written { undo = record w.written.undo { pairs = [] } }) w.written) ≡ is_written w.written

@@ -1,5 +1,5 @@
 -- Lists of versions that are taken over in some classes.
-use Rattle.std.proofs.Common.{◌≡◌, ◌⊎◌, ◌<◌, ◌+◌, ◌==◌, ◌∷◌, ℕ, zero, suc, List, [], length, Bool, true, false, cond, refl, sym, ap, subst, ◌∙◌, arith, inl, inr, slice_index_or}
+use Rattle.std.proofs.Common.{◌≡◌, ◌⊎◌, ◌<◌, ◌+◌, ◌==◌, ◌∷◌, ℕ, zero, suc, List, [], length, Bool, cond, refl, sym, ap, subst, ◌∙◌, arith, inl, inr, slice_index_or}
 use Rattle.std.specs.Int.{bit_at}
 use Rattle.rdb_cells.proofs.SettledLemmas.{true_or_false}
 use Rattle.rdb_registry.specs.declared.seat.Seat.{Seat}

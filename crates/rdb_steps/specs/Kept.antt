@@ -1,7 +1,7 @@
 -- What every step keeps of cells, latches, plans, undo records and own writes. Nothing here speaks of a journal. It is said of two lists of
 -- versions: the settled ones, which are there once all unfinished work is taken back, and those aimed at, which are there once the plan of
 -- each class's holder is written.
-use Rattle.std.specs.Prelude.{◌≡◌, ◌≢◌, ◌<◌, ◌≤◌, ◌&&◌, ◌||◌, ◌==◌, ℕ, List, [], Bool, true, false, not, length, slice_index, Some, is_some, is_none, None, option_and_then}
+use Rattle.std.specs.Prelude.{◌≡◌, ◌≢◌, ◌<◌, ◌≤◌, ◌&&◌, ◌||◌, ◌==◌, ℕ, List, [], Bool, true, false, not, length, slice_index, Some, None, is_some, is_none, option_and_then}
 use Rattle.std.specs.Option.{option_map}
 use Rattle.rdb_base.specs.declared.identity.Manager.{Manager}
 use Rattle.rdb_base.specs.declared.identity.Phase.{Phase}

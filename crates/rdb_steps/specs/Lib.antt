@@ -9,3 +9,4 @@ pub mod Making
 pub mod States
 pub mod Planning
 pub mod Laid
+pub mod Steps

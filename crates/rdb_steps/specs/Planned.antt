@@ -1,5 +1,5 @@
 -- What the plan of a record leads to, beside its own writes and beside what others wrote.
-use Rattle.std.specs.Prelude.{◌≡◌, ◌≢◌, ◌==◌, ◌&&◌, ℕ, Bool, true, false, not, List, [], drop, filter, Option, Some, None, IsSomeAnd, slice_get, if◌then◌else◌}
+use Rattle.std.specs.Prelude.{◌≡◌, ◌≢◌, ◌==◌, ◌&&◌, ℕ, Bool, true, false, not, List, drop, filter, Option, Some, None, IsSomeAnd, slice_get, if◌then◌else◌}
 use Rattle.std.specs.Option.{option_map}
 use Rattle.rdb_base.specs.declared.identity.Manager.{Manager}
 use Rattle.rdb_base.specs.declared.identity.TxId.{TxId}
@@ -39,17 +39,17 @@ same_object a b = (a.0 == b.0) && (a.1 == b.1)
 abbrev pub put_header : Work → List OwnWrite → ℕ × ℕ → Option CellRef
 put_header work own object =
     if same_object (object_named work.op) object then (if_put work.puts (header_of own object)) else header_of own object where
-    if_put : Option CellRef → Option CellRef → Option CellRef
-    if_put (Some header) was = Some header
-    if_put None was = was
+      if_put : Option CellRef → Option CellRef → Option CellRef
+      if_put (Some header) was = Some header
+      if_put None was = was
 
 -- the header of the version that a record's transaction will have of an object once its plan is written: the one that the plan puts, none
 -- of the first object that it wrote where the plan is the drop of that version, and else the one that it has
 abbrev pub header_after : Hand → ℕ × ℕ → Option CellRef
 header_after hand object = after_work hand.work hand.own.items object where
-    after_work : Option Work → List OwnWrite → ℕ × ℕ → Option CellRef
-    after_work None own object = header_of (drop 1 own) object
-    after_work (Some work) own object = put_header work own object
+  after_work : Option Work → List OwnWrite → ℕ × ℕ → Option CellRef
+  after_work None own object = header_of (drop 1 own) object
+  after_work (Some work) own object = put_header work own object
 
 -- the classes of which a connection's aims are spoken of: where the undo record spans one plan, those whose latch it holds; else all
 abbrev pub IsWithin : Manager → Seat → ℕ → Type 0

@@ -1,5 +1,5 @@
 -- A World's state as its steps speak of it, and what is so of it between two steps, beside what its cells hold.
-use Rattle.std.specs.Prelude.{◌≡◌, ◌≢◌, ◌<◌, ◌≤◌, ◌+◌, ◌*◌, ◌||◌, ℕ, List, [], length, slice_index, Option, Some, None, true, false, is_some, option_and_then, IsSome, not, if◌then◌else◌}
+use Rattle.std.specs.Prelude.{◌≡◌, ◌<◌, ◌≤◌, ◌+◌, ◌*◌, ◌||◌, ℕ, List, [], length, slice_index, Option, Some, true, false, is_some, option_and_then, IsSome, not, if◌then◌else◌}
 use Rattle.std.specs.List.{sum_by}
 use Rattle.std.specs.Option.{option_map_or}
 use Rattle.rdb_base.specs.declared.identity.Manager.{Manager}
