@@ -39,6 +39,7 @@ use Rattle.rdb_writes.proofs.WorkLemmas.{in_its_slot}
 use Rattle.rdb_steps.specs.Invariant.{IsKept}
 use Rattle.rdb_steps.specs.Kept.{IsLawful, HoldsClass, Agrees, OwnAre, aims, is_dropping, is_marked, owns_settled, takes_back, is_rolling_back, tx_of}
 use Rattle.rdb_steps.specs.Lists.{LaysPlan, LeadsTo, TakesFree}
+use Rattle.rdb_steps.specs.LaidPlans.{MakesLaid}
 use Rattle.rdb_steps.specs.Making.{with_plan, with_put, without_own}
 use Rattle.rdb_steps.specs.Phases.{Rests, RestsIn, IsWriting, IsBetween, IsRollingBack}
 use Rattle.rdb_steps.specs.Planned.{PlanLeads, all_but, object_named, IsWithin}
@@ -51,7 +52,7 @@ use Rattle.rdb_steps.proofs.OwnChains.{once_put, once_left, once_without, within
 use Rattle.rdb_steps.proofs.PhaseLemmas.{takes_none_back, aims_spoken}
 use Rattle.rdb_steps.proofs.PlanLemmas.{plan_lists}
 use Rattle.rdb_steps.proofs.RestingLemmas.{same_at_rest, stands_now, ascends, owned_at_rest}
-use Rattle.rdb_steps.proofs.PlanningLemmas.{MakesLaid, leads_elsewhere, unwritten_if, hand_changes}
+use Rattle.rdb_steps.proofs.PlanningLemmas.{leads_elsewhere, unwritten_if, hand_changes}
 
 -- latches, where a connection that holds none takes one that nobody else holds
 only_class : (latches class k : ℕ) → latches ≡ 0 → bit_at (with_latch latches class) k ≡ 1 → k ≡ class

@@ -39,6 +39,7 @@ use Rattle.rdb_writes.proofs.WorkLemmas.{in_its_slot}
 use Rattle.rdb_steps.specs.Invariant.{IsKept}
 use Rattle.rdb_steps.specs.Kept.{IsLawful, HoldsClass, Agrees, OwnAre, aims, is_dropping, is_marked, owns_settled, takes_back, is_rolling_back, tx_of}
 use Rattle.rdb_steps.specs.Lists.{LaysPlan, LeadsTo, TakesFree}
+use Rattle.rdb_steps.specs.LaidPlans.{MakesLaid}
 use Rattle.rdb_steps.specs.Making.{with_plan, with_put, without_own}
 use Rattle.rdb_steps.specs.Phases.{Rests, RestsIn, IsWriting, IsBetween, IsRollingBack}
 use Rattle.rdb_steps.specs.Planned.{PlanLeads, all_but, object_named, IsWithin}
@@ -97,16 +98,6 @@ only_one v w there = go there.0 there.1 there.2
 has_one : (newer : List Version) (v : Version) (older : List Version) → newer ++ v ∷ older ≢ []
 has_one [] v older e = cc
 has_one (w ∷ newer) v older e = cc
-
--- A plan was laid in a hand: no cell is written, its cells are of the class, there are places for it, and it leads from whatever the class
--- holds to another chain of an object.
-pub record MakesLaid (schema : Schema) (before after : Ground) (c : ConnId) (seat : Seat) (hand : Hand) (class id : ℕ) (was chain : List Version) : Type 0 where
-  pub cells : SameCells before after
-  pub records : after.seats ≡ with_hand before.seats c.slot hand
-  pub only : (n : ℕ) → names hand.plan.pairs n ≡ true → before.class_of n ≡ Some class
-  pub places : HasPlaces hand
-  pub leads : LeadsTo schema before hand.plan.pairs class id was chain
-  pub one_holder : HaveOneHolder after.seats
 
 -- and the chain is another one
 pub record IsLaid (schema : Schema) (before after : Ground) (c : ConnId) (seat : Seat) (hand : Hand) (class id : ℕ) (was chain : List Version) : Type 0 where

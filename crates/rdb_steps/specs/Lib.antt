@@ -10,3 +10,4 @@ pub mod States
 pub mod Planning
 pub mod Laid
 pub mod Steps
+pub mod LaidPlans

@@ -1,6 +1,7 @@
-use Rattle.std.proofs.Common.{List, Option, sym, subst}
+use Rattle.std.proofs.Common.{ℕ, List, Option, sym, subst}
 use Rattle.rdb_base.specs.declared.operation.Op.{Op}
 use Rattle.rdb_base.specs.declared.value.Value.{Value}
+use Rattle.rdb_schema.specs.Encodes.{Encodes}
 use Rattle.rdb_space.specs.Memory.{image_of, class_of}
 use Rattle.rdb_store.specs.Shapes.{class_in}
 use Rattle.rdb_steps.specs.Laid.{LeadsToPut}
@@ -19,6 +20,6 @@ returns-in_default g c =
     record {
       leads =
           subst (λ (r : Option (List Value)). LeadsToPut (class_in c.args.store.now c.args.new.now.class) (image_of c.args.memory.now) (class_of c.args.memory.now) c.putting_row.result.1.pairs c.args.new.now c.putting_row.result.0.number r)
-          (sym row.1) (c.putting_row.ensures.leads row.0 row.2);
+          (sym row.1) (c.putting_row.ensures.leads row.0 (subst (λ (bytes : List ℕ). Encodes (class_in c.args.store.now c.args.new.now.class).types row.0 bytes) (sym c.as_slice.ensures) row.2));
       plan = c.putting_row.ensures.plan;
     }
