@@ -156,8 +156,13 @@ module _ (schema : Schema) (manager : Manager) (before after : Ground) (c : Conn
         (λ s is class held. (seat, refl, of_one (λ (x : Seat). HoldsLatch x class → HoldsLatch seat class) (becomes_marked commit seat) (λ h. h) s is held));
     single =
         single_after before after c.slot (Some seat) (Some (becomes_marked commit seat)) r manager kept.single
-        (λ s u is open_now. (seat, writer.transaction, refl, writer.open_one,
-        of_one (λ (x : Seat). x.transaction ≡ Some u → writer.transaction.kind ≡ u.kind) (becomes_marked commit seat) (kind_was seat commit writer.transaction writer.open_one u) s is open_now));
+        (λ s u is open_now. (
+          seat,
+          writer.transaction,
+          refl,
+          writer.open_one,
+          of_one (λ (x : Seat). x.transaction ≡ Some u → writer.transaction.kind ≡ u.kind) (becomes_marked commit seat) (kind_was seat commit writer.transaction writer.open_one u) s is open_now,
+        ));
     own =
         each_now before after c.slot (Some seat) (Some (becomes_marked commit seat)) r (λ i s. OwnAre manager s settled aimed) (λ i s. OwnAre manager s (taken_over seat settled aimed) aimed) kept.own
         (λ i s other at had. other_owns manager s settled aimed (taken_over seat settled aimed) aimed (same_settled i s other at) (λ single t open_one class. refl) had)

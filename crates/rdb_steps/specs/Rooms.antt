@@ -1,5 +1,5 @@
 -- The room that records have, and how far numbers were drawn, as records and journal move.
-use Rattle.std.specs.Prelude.{◌≡◌, ◌≤◌, ◌<◌, ℕ, List, length, IsSome}
+use Rattle.std.specs.Prelude.{◌≤◌, ◌<◌, ℕ, List, length, IsSome}
 use Rattle.rdb_base.specs.declared.limits.TheConstants.{MAX_OPERATIONS}
 use Rattle.rdb_schema.specs.declared.schema.Schema.{Schema}
 use Rattle.rdb_registry.specs.declared.seat.Seat.{Seat}

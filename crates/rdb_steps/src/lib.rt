@@ -38,7 +38,7 @@ pub use moves::{
 };
 pub use rooms::{
     a_condemnation_keeps_rooms, a_connection_that_closes_keeps_rooms,
-    a_connection_that_comes_keeps_rooms, a_mark_keeps_rooms,
-    a_roll_back_that_begins_keeps_rooms, what_is_told_keeps_rooms,
+    a_connection_that_comes_keeps_rooms, a_mark_keeps_rooms, a_roll_back_that_begins_keeps_rooms,
+    what_is_told_keeps_rooms,
 };
 pub use state::{Counters, State};

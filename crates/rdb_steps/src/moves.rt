@@ -46,7 +46,7 @@ pub fn a_transaction_that_begins_keeps_all()
     ensures { (schema : Schema) (manager : Manager) (before after : Ground) (c : ConnId) (seat : Seat) (wanted : Kind) (begun snapshot : ℕ)
         (spare : Record) → IsLawful schema → ArePlaced before.seats
         → ChangesSeat before after c seat
-            (λ s. exchanged manager spare (latched manager (length schema.classes) (opened wanted begun snapshot s)))
+        (λ s. exchanged manager spare (latched manager (length schema.classes) (opened wanted begun snapshot s)))
         → seat.hand.phase ≡ phase.Idle → spare.pairs ≡ [] → MayBegin manager before.seats c.slot wanted
         → KeptByBoth schema manager before after }
 {}
