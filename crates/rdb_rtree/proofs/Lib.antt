@@ -1,0 +1,6 @@
+pub mod BoxLemmas
+pub mod CountLemmas
+pub mod ListLemmas
+pub mod SplitLemmas
+pub mod NodeLemmas
+pub mod LookupLemmas

@@ -90,7 +90,7 @@ least_entries = 4
 -- the box of a node is the least that covers its entries, of which there are at least so many
 pub record IsFull (least : ℕ) (boxes : List Rect) (cover : Rect) : Type 0 where
   pub enough : least ≤ length boxes
-  pub cover : IsLeastCover boxes cover
+  pub covers : IsLeastCover boxes cover
 
 -- A tree of the shape of an R-tree whose node has at least so many entries: all leaves are at one level, each box is the least
 -- cover, and the nodes below have at least four entries.

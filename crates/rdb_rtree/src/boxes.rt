@@ -1,6 +1,6 @@
 //! Boxes as values: how they lie to one another, what covers them, and which grows least. It touches no cell.
 ghost use Rattle.std.specs.Prelude.{◌≡◌, ◌<◌, [], ◌∷◌, length, map};
-ghost use Rattle.rdb_rtree.specs.Boxes.{overlaps, lies_in, meets, IsLeastCover};
+ghost use Rattle.rdb_rtree.specs.Boxes.{spans_meet, span_lies_in, overlaps, lies_in, meets, IsLeastCover};
 
 use crate::entry::Entry;
 use rdb_base::value::Rect;
@@ -9,14 +9,38 @@ use rdb_base::value::Rect;
 pub(crate) fn overlaps(a: &Rect, b: &Rect) -> bool
     ensures { result ≡ overlaps a.now b.now }
 {
-    a.x1 <= b.x2 && b.x1 <= a.x2 && a.y1 <= b.y2 && b.y1 <= a.y2
+    meets_across(a, b) && meets_along(a, b)
+}
+
+fn meets_across(a: &Rect, b: &Rect) -> bool
+    ensures { result ≡ spans_meet a.now.x1 a.now.x2 b.now.x1 b.now.x2 }
+{
+    a.x1 <= b.x2 && b.x1 <= a.x2
+}
+
+fn meets_along(a: &Rect, b: &Rect) -> bool
+    ensures { result ≡ spans_meet a.now.y1 a.now.y2 b.now.y1 b.now.y2 }
+{
+    a.y1 <= b.y2 && b.y1 <= a.y2
 }
 
 /// Returns whether the first box lies in the second, edges included.
 pub(crate) fn lies_in(a: &Rect, b: &Rect) -> bool
     ensures { result ≡ lies_in a.now b.now }
 {
-    b.x1 <= a.x1 && a.x2 <= b.x2 && b.y1 <= a.y1 && a.y2 <= b.y2
+    lies_across(a, b) && lies_along(a, b)
+}
+
+fn lies_across(a: &Rect, b: &Rect) -> bool
+    ensures { result ≡ span_lies_in a.now.x1 a.now.x2 b.now.x1 b.now.x2 }
+{
+    b.x1 <= a.x1 && a.x2 <= b.x2
+}
+
+fn lies_along(a: &Rect, b: &Rect) -> bool
+    ensures { result ≡ span_lies_in a.now.y1 a.now.y2 b.now.y1 b.now.y2 }
+{
+    b.y1 <= a.y1 && a.y2 <= b.y2
 }
 
 /// Returns whether a box lies in the rectangle, or overlaps it.
@@ -42,16 +66,26 @@ pub(crate) fn joined(a: &Rect, b: &Rect) -> Rect
     }
 }
 
+/// Returns the least box that covers a box and those of entries.
+fn cover_with(first: Rect, rest: &[Entry]) -> Rect
+    ensures { IsLeastCover (first ∷ map (λ entry. entry.cover) rest.now) result }
+{
+    let mut cover = first;
+    for entry in rest {
+        cover = joined(&cover, &entry.cover);
+    }
+    cover
+}
+
 /// Returns the least box that covers all entries, of which there is one at least. The cost grows with their number.
 pub(crate) fn cover_of(entries: &[Entry]) -> Rect
     requires { 0 < length entries.now }
     ensures { IsLeastCover (map (λ entry. entry.cover) entries.now) result }
 {
-    let mut cover = entries[0].cover;
-    for entry in entries {
-        cover = joined(&cover, &entry.cover);
+    match entries {
+        [first, rest @ ..] => cover_with(first.cover, rest),
+        [] => unreachable!(),
     }
-    cover
 }
 
 /// How many numbers a span has, its ends included.

@@ -1,9 +1,17 @@
 //! A version taken out of the tree: out of the leaf that has it, among the nodes whose box covers the version's; and a node that
 //! is left with too few entries takes in those of a sibling, or shares with it where they are too many for one node. It writes
 //! nodes and the head.
+ghost use Rattle.std.specs.Prelude.{◌≡◌, ◌≤◌, ◌<◌, ◌+◌, ◌*◌, ℕ, suc, List, length, Contains, Some, IfSome, IfNone};
+ghost use Rattle.rdb_cells.specs.Images.{IsCell};
+ghost use Rattle.rdb_cells.specs.Keys.{Sayings, says};
+ghost use Rattle.rdb_cells.specs.Work.{work, reading};
+ghost use Rattle.rdb_rtree.specs.Changes.{HasPlaces, versions_below, IsShrinking, HasShrunk, IsToMend, IsMended, IsToShare, AreShared, IsTreeRemoved};
+ghost use Rattle.rdb_rtree.specs.Nature.{IsRtreeIndex};
+ghost use Rattle.rdb_rtree.specs.Trees.{Node as NodeOf, RTree};
+
 use crate::boxes::{cover_of, least_grown, lies_in};
 use crate::entry::{Entries, Entry, LEAST_ENTRIES};
-use crate::node::{entries_of, node_at, put_cell, put_node};
+use crate::node::{entries_at, node_at, put_cell, put_node};
 use crate::rtree::Rtree;
 use crate::split::split;
 use rdb_cells::{Cells, IndexHead, Keys, Overlay, RTREE_ENTRIES};
@@ -15,7 +23,19 @@ pub(crate) fn remove<C: Cells, K: Keys>(
     cells: &mut Overlay<C>,
     keys: &K,
     version: CellRef,
-) {
+)
+    requires standing { (listed : _) × (nodes : _)
+        × IsRtreeIndex tree.now.head.number (says (K.meaning keys.now) (reading (work C.Cells cells.old)))
+        (reading (work C.Cells cells.old)) listed nodes
+        × Contains listed version }
+    requires places { HasPlaces (work C.Cells cells.old) 24 }
+    ensures removed { (listed : _) (nodes : _) →
+        (is : IsRtreeIndex tree.now.head.number (says (K.meaning keys.now) (reading (work C.Cells cells.old)))
+        (reading (work C.Cells cells.old)) listed nodes) →
+        Contains listed version → IsTreeRemoved (says (K.meaning keys.now) (reading (work C.Cells cells.old))) (work C.Cells cells.old)
+        (work C.Cells cells.new) version tree.now.head.number is.tree }
+    ensures below { (cells.new.cells ≡ cells.old.cells) × (cells.new.class ≡ cells.old.class) }
+{
     let entry = Entry {
         at: version,
         cover: keys.rect(&*cells, version),
@@ -65,8 +85,19 @@ fn without_entry<C: Cells, K: Keys>(
     at: CellRef,
     level: u32,
     lost: Entry,
-) -> Option<Entries> {
-    let mut entries = entries_of(&*cells, keys, &node_at(&*cells, at));
+) -> Option<Entries>
+    requires tree { (said : Sayings) × (h : ℕ) × (t : NodeOf (RTree h))
+        × IsShrinking (K.meaning keys.now) said (reading (work C.Cells cells.old)) at level lost h t }
+    requires places { HasPlaces (work C.Cells cells.old) (2 * level) }
+    ensures found { IfSome result (λ entries. (said : Sayings) (h : ℕ) (t : NodeOf (RTree h)) →
+        IsShrinking (K.meaning keys.now) said (reading (work C.Cells cells.old)) at level lost h t →
+        HasShrunk said (work C.Cells cells.old) (work C.Cells cells.new) lost.at h t.below entries.items) }
+    ensures none { IfNone result ((said : Sayings) (h : ℕ) (t : NodeOf (RTree h)) →
+        IsShrinking (K.meaning keys.now) said (reading (work C.Cells cells.old)) at level lost h t →
+        (¬ Contains (versions_below h t.below) lost.at) × (work C.Cells cells.new ≡ work C.Cells cells.old)) }
+    ensures below { (cells.new.cells ≡ cells.old.cells) × (cells.new.class ≡ cells.old.class) }
+{
+    let mut entries = entries_at(&*cells, keys, at, level);
     if level == 0 {
         let place = place_of(entries.as_slice(), lost.at)?;
         let _lost = entries.remove(place);
@@ -94,14 +125,23 @@ fn mend<C: Cells, K: Keys>(
     level: u32,
     left: Entries,
     above: &mut Entries,
-) {
+)
+    requires mends { (said : Sayings) × (h : ℕ) × (own : List (RTree h)) × (beside : List (RTree (suc h)))
+        × IsToMend (K.meaning keys.now) said (work C.Cells cells.old) at level h own beside left.items above.old.items }
+    requires places { HasPlaces (work C.Cells cells.old) 2 }
+    ensures mended { (said : Sayings) (h : ℕ) (own : List (RTree h)) (beside : List (RTree (suc h))) →
+        IsToMend (K.meaning keys.now) said (work C.Cells cells.old) at level h own beside left.items above.old.items →
+        IsMended said (work C.Cells cells.old) (work C.Cells cells.new) at h own beside above.new.items }
+    ensures below { (cells.new.cells ≡ cells.old.cells) × (cells.new.class ≡ cells.old.class) }
+{
     if left.len() >= LEAST_ENTRIES {
-        above.push(put_node(cells, at, level, left.as_slice()));
+        let node = put_node(cells, at, level, left.as_slice());
+        above.push(node);
         return;
     }
     let place = least_grown(above.as_slice(), &cover_of(left.as_slice()));
     let sibling = above.remove(place);
-    let others = entries_of(&*cells, keys, &node_at(&*cells, sibling.at));
+    let others = entries_at(&*cells, keys, sibling.at, level);
     let mut both = left;
     for entry in others.as_slice() {
         both.push(*entry);
@@ -118,13 +158,25 @@ fn share<C: Cells>(
     level: u32,
     entries: Entries,
     above: &mut Entries,
-) {
+)
+    requires shares { (said : Sayings) × (h : ℕ) × (ts : List (RTree h))
+        × IsToShare said (work C.Cells cells.old) at other level h ts entries.items }
+    requires above { length above.old.items ≤ 12 }
+    requires places { HasPlaces (work C.Cells cells.old) 2 }
+    ensures shared { (said : Sayings) (h : ℕ) (ts : List (RTree h)) →
+        IsToShare said (work C.Cells cells.old) at other level h ts entries.items →
+        AreShared said (work C.Cells cells.old) (work C.Cells cells.new) at other h ts above.old.items above.new.items }
+    ensures below { (cells.new.cells ≡ cells.old.cells) × (cells.new.class ≡ cells.old.class) }
+{
     if entries.len() <= RTREE_ENTRIES {
         put_cell(cells, other, Cell::ZERO);
-        above.push(put_node(cells, at, level, entries.as_slice()));
+        let node = put_node(cells, at, level, entries.as_slice());
+        above.push(node);
         return;
     }
     let (left, right) = split(entries);
-    above.push(put_node(cells, at, level, left.as_slice()));
-    above.push(put_node(cells, other, level, right.as_slice()));
+    let second = put_node(cells, other, level, right.as_slice());
+    let first = put_node(cells, at, level, left.as_slice());
+    above.push(first);
+    above.push(second);
 }

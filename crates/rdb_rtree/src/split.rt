@@ -1,7 +1,7 @@
 //! Too many entries parted into two nodes, by Guttman's quadratic split: the two entries that would waste most as a pair are the
 //! first of either part; then the entry is taken that prefers one of the parts most, and goes to the part whose cover grows less.
 //! It touches no cell.
-ghost use Rattle.std.specs.Prelude.{◌≡◌, ◌+◌, ◌<◌, ◌≤◌, ◌++◌, length, true, false, IsPermutation};
+ghost use Rattle.std.specs.Prelude.{◌≡◌, ◌+◌, ◌<◌, ◌≤◌, [], ◌∷◌, ◌++◌, length, true, false, IsPermutation};
 ghost use Rattle.rdb_cells.specs.RtreeFormat.{most_entries};
 ghost use Rattle.rdb_rtree.specs.Trees.{least_entries};
 
@@ -97,15 +97,15 @@ fn prefers_left(left: &Part, right: &Part, entry: &Entry) -> bool {
 }
 
 /// Returns whether the next entry goes to the left part. A part gets all that are left where it needs them to have enough.
-fn goes_left(left: &Part, right: &Part, entry: &Entry, others: usize) -> bool
-    requires { 7 ≤ length left.now.entries.items + length right.now.entries.items + others }
-    ensures left { result ≡ true → least_entries ≤ length right.now.entries.items + others }
-    ensures right { result ≡ false → least_entries ≤ length left.now.entries.items + others }
+fn goes_left(left: &Part, right: &Part, entry: &Entry, rest: &Entries) -> bool
+    requires { 8 ≤ length left.now.entries.items + length right.now.entries.items + length rest.now.items }
+    ensures left { result ≡ true → least_entries ≤ length right.now.entries.items + length rest.now.items }
+    ensures right { result ≡ false → least_entries ≤ length left.now.entries.items + length rest.now.items }
 {
-    if left.entries.len() + others < LEAST_ENTRIES {
+    if left.entries.len() + rest.len() < LEAST_ENTRIES {
         return true;
     }
-    if right.entries.len() + others < LEAST_ENTRIES {
+    if right.entries.len() + rest.len() < LEAST_ENTRIES {
         return false;
     }
     prefers_left(left, right, entry)
@@ -125,7 +125,7 @@ pub(crate) fn split(entries: Entries) -> (Entries, Entries)
     while !rest.is_empty() {
         let place = most_decided(rest.as_slice(), &left.cover, &right.cover);
         let entry = rest.remove(place);
-        if goes_left(&left, &right, &entry, rest.len()) {
+        if goes_left(&left, &right, &entry, &rest) {
             left.add(entry);
         } else {
             right.add(entry);
