@@ -4,3 +4,8 @@ pub mod ListLemmas
 pub mod SplitLemmas
 pub mod NodeLemmas
 pub mod LookupLemmas
+pub mod AccountLemmas
+pub mod WrittenLemmas
+pub mod WholeLemmas
+pub mod SettleLemmas
+pub mod GrowLemmas

@@ -24,22 +24,72 @@ loop-rest-init c =
     }
 
 pub goes_left-requires : goal.goes_left-requires
-goes_left-requires c = ?
+goes_left-requires c =
+    let many = so_many c.args.entries.items c.loop-rest.left.entries.items c.loop-rest.right.entries.items c.loop-rest.rest.items c.loop-rest.invariant.all in
+    let less = c.remove-entry.ensures.len in
+    let large = c.requires in
+    omega arith
 
 pub add-requires : goal.add-requires
-add-requires c = ?
+add-requires c =
+    let many = so_many c.args.entries.items c.loop-rest.left.entries.items c.loop-rest.right.entries.items c.loop-rest.rest.items c.loop-rest.invariant.all in
+    let less = c.remove-entry.ensures.len in
+    let few = c.as_slice.ensures.fits in
+    let same = ap (length {A = Entry}) c.as_slice.ensures.value in
+    omega arith
 
 pub loop-rest-preserved-then-goes_left : goal.loop-rest-preserved-then-goes_left
-loop-rest-preserved-then-goes_left c = ?
+loop-rest-preserved-then-goes_left c =
+    let gone = removed_one c.loop-rest.rest.items c.remove-entry.new.self.items c.most_decided-place.result c.remove-entry.result (omega arith) c.remove-entry.ensures.value c.remove-entry.ensures.items in
+    let less = c.remove-entry.ensures.len in
+    let long = pushed c.loop-rest.left.entries.items c.add.new.self.entries.items c.remove-entry.result c.add.ensures in
+    let kept = c.goes_left.ensures.left c.if-goes_left.true in
+    let left = c.loop-rest.invariant.left in
+    record {
+      all = subst (λ (es : List Entry). IsPermutation c.args.entries.items ((es ++ c.loop-rest.right.entries.items) ++ c.remove-entry.new.self.items)) (sym c.add.ensures)
+          (goes_first c.args.entries.items c.loop-rest.left.entries.items c.loop-rest.right.entries.items c.loop-rest.rest.items c.remove-entry.new.self.items c.remove-entry.result c.loop-rest.invariant.all gone);
+      left = omega arith;
+      right = kept;
+    }
 
 pub add-requires-else-goes_left : goal.add-requires-else-goes_left
-add-requires-else-goes_left c = ?
+add-requires-else-goes_left c =
+    let many = so_many c.args.entries.items c.loop-rest.left.entries.items c.loop-rest.right.entries.items c.loop-rest.rest.items c.loop-rest.invariant.all in
+    let less = c.remove-entry.ensures.len in
+    let few = c.as_slice.ensures.fits in
+    let same = ap (length {A = Entry}) c.as_slice.ensures.value in
+    omega arith
 
 pub loop-rest-preserved : goal.loop-rest-preserved
-loop-rest-preserved c = ?
+loop-rest-preserved c =
+    let gone = removed_one c.loop-rest.rest.items c.remove-entry.new.self.items c.most_decided-place.result c.remove-entry.result (omega arith) c.remove-entry.ensures.value c.remove-entry.ensures.items in
+    let less = c.remove-entry.ensures.len in
+    let long = pushed c.loop-rest.right.entries.items c.add-else-goes_left.new.self.entries.items c.remove-entry.result c.add-else-goes_left.ensures in
+    let kept = c.goes_left.ensures.right c.if-goes_left.false in
+    let right = c.loop-rest.invariant.right in
+    record {
+      all = subst (λ (es : List Entry). IsPermutation c.args.entries.items ((c.loop-rest.left.entries.items ++ es) ++ c.remove-entry.new.self.items)) (sym c.add-else-goes_left.ensures)
+          (goes_second c.args.entries.items c.loop-rest.left.entries.items c.loop-rest.right.entries.items c.loop-rest.rest.items c.remove-entry.new.self.items c.remove-entry.result c.loop-rest.invariant.all gone);
+      left = kept;
+      right = omega arith;
+    }
 
 pub returns-clause-left : goal.returns-clause-left
-returns-clause-left c = ?
+returns-clause-left c =
+    let many = so_many c.args.entries.items c.loop-rest.left.entries.items c.loop-rest.right.entries.items c.loop-rest.rest.items c.loop-rest.invariant.all in
+    let few = c.as_slice.ensures.fits in
+    let same = ap (length {A = Entry}) c.as_slice.ensures.value in
+    let left = c.loop-rest.invariant.left in
+    let right = c.loop-rest.invariant.right in
+    let none : length c.loop-rest.rest.items ≡ 0 = ? in
+    (omega arith, omega arith)
 
 pub returns-clause-right : goal.returns-clause-right
-returns-clause-right c = ?
+returns-clause-right c =
+    let many = so_many c.args.entries.items c.loop-rest.left.entries.items c.loop-rest.right.entries.items c.loop-rest.rest.items c.loop-rest.invariant.all in
+    let few = c.as_slice.ensures.fits in
+    let same = ap (length {A = Entry}) c.as_slice.ensures.value in
+    let left = c.loop-rest.invariant.left in
+    let right = c.loop-rest.invariant.right in
+    let none : length c.loop-rest.rest.items ≡ 0 = ? in
+    (omega arith, omega arith)
