@@ -9,3 +9,5 @@ pub mod WrittenLemmas
 pub mod WholeLemmas
 pub mod SettleLemmas
 pub mod GrowLemmas
+pub mod ChosenLemmas
+pub mod RootLemmas

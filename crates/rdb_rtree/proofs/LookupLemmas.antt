@@ -57,6 +57,37 @@ child_at image at level (suc h) t is inner refs same i d below =
       part = ap (flat_map (versions (suc h))) (drop_more t.below i here.one low ∙ ap (λ (u : RTree (suc h)). u ∷ drop (i + 1) t.below) one_is);
     }
 
+-- and as one of its entries, by what the keys say
+pub record IsKeyedChild (keys : Meaning) (said : Sayings) (image : Image) (level h : ℕ) (ts : List (RTree h)) (i : ℕ) (e : Entry) : Type 0 where
+  pub height : ℕ
+  pub child : Node (RTree height)
+  pub is : IsKeyedAt keys said image e.at (level - 1) height child
+  pub cover_is : e.cover ≡ child.cover
+  pub shape : IsShaped said (suc height) least_entries child
+  pub part : flat_map (versions h) (drop i ts) ≡ versions (suc height) child ++ flat_map (versions h) (drop (i + 1) ts)
+
+pub keyed_child : (keys : Meaning) (said : Sayings) (image : Image) (at : CellRef) (level h : ℕ) (t : Node (RTree h)) → IsKeyedAt keys said image at level h t → level ≢ 0 → (entries : List Entry) → entries ≡ entries_above said h t.below → (i : ℕ) (d : Entry) → i < length entries → IsKeyedChild keys said image level h t.below i (get_or entries i d)
+keyed_child keys said image at level zero t is inner entries same i d below = absurd (inner is.tree.level_is)
+keyed_child keys said image at level (suc h) t is inner entries same i d below =
+    let many = ap (length {A = Entry}) same ∙ length-map t.below (entry_of said (suc h)) in
+    let low : i < length t.below = omega arith in
+    let here = taken_at t.below i low in
+    let one_is : get_or t.below i here.one ≡ here.one = ap (λ (ts : List (RTree (suc h))). get_or ts i here.one) here.is ∙ got_middle here.front here.one here.back i here.one here.many in
+    let stand = (each_back (Stands (suc h) image) here.front (here.one ∷ here.back) (subst (Each (Stands (suc h) image)) here.is is.tree.stands.1)).0 in
+    let shape = (each_back (IsShaped said (suc h) least_entries) here.front (here.one ∷ here.back) (subst (Each (IsShaped said (suc h) least_entries)) here.is is.shaped)).0 in
+    let shown : get_or entries i d ≡ entry_of said (suc h) here.one =
+        ap (λ (es : List Entry). get_or es i d) (same ∙ ap (entries_above said (suc h)) here.is ∙ map_both (entry_of said (suc h)) here.front (here.one ∷ here.back))
+        ∙ got_middle (map (entry_of said (suc h)) here.front) (entry_of said (suc h) here.one) (map (entry_of said (suc h)) here.back) i d (length-map here.front (entry_of said (suc h)) ∙ here.many) in
+    let same_level = is.tree.level_is in
+    record {
+      height = h;
+      child = here.one;
+      is = record { tree = record { at_is = sym (ap (λ (e : Entry). e.at) shown); level_is = omega arith; stands = stand }; says = is.says; shaped = shape.1 };
+      cover_is = ap (λ (e : Entry). e.cover) shown;
+      shape = shape;
+      part = ap (flat_map (versions (suc h))) (drop_more t.below i here.one low ∙ ap (λ (u : RTree (suc h)). u ∷ drop (i + 1) t.below) one_is);
+    }
+
 -- what was gathered so far, and what is left
 pub gather_step : (was now part rest all : List CellRef) → now ≡ was ++ part → was ++ (part ++ rest) ≡ all → now ++ rest ≡ all
 gather_step was now part rest all grown whole = ap (λ (rs : List CellRef). rs ++ rest) grown ∙ append_assoc was part rest ∙ whole

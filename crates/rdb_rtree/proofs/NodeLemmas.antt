@@ -63,7 +63,7 @@ module _ (image : Image) (at : CellRef) (level h : ℕ) (t : Node (RTree h)) (is
     tree_refs = ap (λ (n : RtreeNode). take n.count n.entries) tree_read ∙ take_at (map (place h) t.below) (replicate (11 - length (map (place h) t.below)) no_ref) (length (map (place h) t.below)) refl
 
 -- a box that is some version's
-some_box : (o : Option Version) (own : Rect) → option_and_then (λ (v : Version). box_of v.key) o ≡ Some own → (v : Version) × (o ≡ Some v) × (box_of v.key ≡ Some own)
+pub some_box : (o : Option Version) (own : Rect) → option_and_then (λ (v : Version). box_of v.key) o ≡ Some own → (v : Version) × (o ≡ Some v) × (box_of v.key ≡ Some own)
 some_box None own is = absurd (cc)
 some_box (Some v) own is = (v, refl, is)
 

@@ -32,6 +32,13 @@ pub record IsWritten (level : ℕ) (entries : List Entry) (at : CellRef) (r : En
   pub covers : IsLeastCover (map (λ (e : Entry). e.cover) entries) r.cover
   pub proper : IsRtreeNode (node_with level r.cover (map (λ (e : Entry). e.at) entries))
 
+pub written_by : (level : ℕ) (given entries : List Entry) (at : CellRef) (r : Entry) → given ≡ entries → r.at ≡ at → IsLeastCover (map (λ (e : Entry). e.cover) given) r.cover → IsRtreeNode (node_with level r.cover (map (λ (e : Entry). e.at) given)) → IsWritten level entries at r
+written_by level given entries at r same at_is covers proper = record {
+  at_is = at_is;
+  covers = subst (λ (es : List Entry). IsLeastCover (map (λ (e : Entry). e.cover) es) r.cover) same covers;
+  proper = subst (λ (es : List Entry). IsRtreeNode (node_with level r.cover (map (λ (e : Entry). e.at) es))) same proper;
+}
+
 written_entry : (was now : List Entry) (r : Entry) (at : CellRef) → r.at ≡ at → now ≡ was ++ r ∷ [] → now ≡ was ++ record { at = at; cover = r.cover } ∷ []
 written_entry was now r at at_is pushed = pushed ∙ ap (λ (q : CellRef). was ++ record { at = q; cover = r.cover } ∷ []) at_is
 
