@@ -9,6 +9,13 @@ use Rattle.rdb_pages.specs.declared.cell.CellRef.{CellRef}
 use Rattle.rdb_cells.specs.Links.{IsAmong, AreOnce}
 use Rattle.rdb_cells.proofs.LinkLemmas.{among_or_not}
 
+-- what a test counts
+pub one_time : (b : Bool) → b ≡ true → cond {A = ℕ} b 1 0 ≡ 1
+one_time b yes = ap (λ (c : Bool). cond {A = ℕ} c 1 0) yes
+
+pub no_time : (b : Bool) → b ≡ false → cond {A = ℕ} b 1 0 ≡ 0
+no_time b no_one = ap (λ (c : Bool). cond {A = ℕ} c 1 0) no_one
+
 -- how often a number is that of an element
 abbrev pub times : {X : Type 0} → (X → ℕ) → ℕ → List X → ℕ
 times key k xs = sum_by (λ x. cond (key x == k) 1 0) xs
@@ -48,14 +55,14 @@ picked {X} key k (x ∷ xs) some = by_test (key x == k) refl (picked key k xs)
     by_test : (b : Bool) → (key x == k) ≡ b → (1 ≤ times key k xs → IsPicked key k xs) → IsPicked key k (x ∷ xs)
     by_test true e later = record { front = []; one = x; back = xs; is = refl; same = eqb-true (key x) k e }
     by_test false e later =
-        let none : cond (key x == k) 1 0 ≡ 0 = ap (λ (b : Bool). cond b 1 0) e in
+        let none = no_time (key x == k) e in
         let all = times_cons key k x xs in
         let rest = later (omega arith) in
         record { front = x ∷ rest.front; one = rest.one; back = rest.back; is = ap (λ (ys : List X). x ∷ ys) rest.is; same = rest.same }
 
 one_at_least : {X : Type 0} (key : X → ℕ) (x : X) (xs : List X) → 1 ≤ times key (key x) (x ∷ xs)
 one_at_least key x xs =
-    let one : cond (key x == key x) 1 0 ≡ 1 = ap (λ (b : Bool). cond b 1 0) (eq-eqb (key x) (key x) refl) in
+    let one = one_time (key x == key x) (eq-eqb (key x) (key x) refl) in
     let all = times_cons key (key x) x xs in
     omega arith
 
@@ -98,14 +105,14 @@ numbers_permute xs ys alike = permutes (λ (i : ℕ). i) (λ x y same. same) xs 
 pub out_count : (ns : List ℕ) (n : ℕ) → (¬ IsAmong ns n) → count n ns ≡ 0
 out_count [] n out = refl
 out_count (m ∷ ms) n out =
-    let none : cond (m == n) 1 0 ≡ 0 = ap (λ (b : Bool). cond b 1 0) (ne_eqb m n (λ same. out (inl same))) in
+    let none = no_time (m == n) (ne_eqb m n (λ same. out (inl same))) in
     let all = count_cons n m ms in
     let rest = out_count ms n (λ within. out (inr within)) in
     omega arith
 
 pub among_count : (ns : List ℕ) (n : ℕ) → IsAmong ns n → 1 ≤ count n ns
 among_count (m ∷ ms) n (inl same) =
-    let one : cond (m == n) 1 0 ≡ 1 = ap (λ (b : Bool). cond b 1 0) (eq-eqb m n same) in
+    let one = one_time (m == n) (eq-eqb m n same) in
     let all = count_cons n m ms in
     omega arith
 among_count (m ∷ ms) n (inr within) =
@@ -124,7 +131,7 @@ pub once_count : (ns : List ℕ) (n : ℕ) → AreOnce ns → count n ns ≤ 1
 once_count [] n once = omega arith
 once_count (m ∷ ms) n once = elim (among_or_not ms n) [
   | inl within ↦
-      let apart : cond (m == n) 1 0 ≡ 0 = ap (λ (b : Bool). cond b 1 0) (ne_eqb m n (λ same. once.0 (subst (IsAmong ms) (sym same) within))) in
+      let apart = no_time (m == n) (ne_eqb m n (λ same. once.0 (subst (IsAmong ms) (sym same) within))) in
       let all = count_cons n m ms in
       let rest = once_count ms n once.1 in
       omega arith
@@ -143,7 +150,7 @@ pub count_once : (ns : List ℕ) → ((n : ℕ) → count n ns ≤ 1) → AreOnc
 count_once [] most = tt
 count_once (m ∷ ms) most = (
   λ within.
-      let one : cond (m == m) 1 0 ≡ 1 = ap (λ (b : Bool). cond b 1 0) (eq-eqb m m refl) in
+      let one = one_time (m == m) (eq-eqb m m refl) in
       let all = count_cons m m ms in
       let again = among_count ms m within in
       let few = most m in

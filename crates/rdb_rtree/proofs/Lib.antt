@@ -11,3 +11,6 @@ pub mod SettleLemmas
 pub mod GrowLemmas
 pub mod ChosenLemmas
 pub mod RootLemmas
+pub mod ChangedLemmas
+pub mod PutLemmas
+pub mod ShareLemmas

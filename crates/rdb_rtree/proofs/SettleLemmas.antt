@@ -69,6 +69,7 @@ module _ (said : Sayings) (w : Work) (at : CellRef) (level h : ℕ) (ts : List (
           list = subst (IsPermutation (versions_below h ts)) (sym (append-nil (versions_below h ts))) (IsPermutation-refl (versions_below h ts));
           places = subst (IsPermutation (at.number ∷ cells_below h ts)) (sym (append-nil (at.number ∷ cells_below h ts))) (IsPermutation-refl (at.number ∷ cells_below h ts));
           two = omega arith;
+          over = λ some. absurd (omega arith);
           account = account_within w (with_cell w at (cell_of level r.cover entries)) (at.number ∷ []) (at.number ∷ []) [] 1 2
               (account_put w at (cell_of level r.cover entries) (node_spent w at.number is.held) (node_bare (reading w) at.number is.held)
               (node_bare (reading (with_cell w at (cell_of level r.cover entries))) at.number (written_kind (reading (with_cell w at (cell_of level r.cover entries))) at.number level r.cover entries here)))
@@ -122,7 +123,7 @@ module _ (said : Sayings) (w : Work) (at : CellRef) (level h : ℕ) (ts : List (
         (put_reads (with_cell (with_taken w other) other (cell_of level second.cover right)) at (cell_of level first.cover left)).elsewhere other.number (λ same. not_other at.number is.held (sym same))
         ∙ other_here
 
-    module _ (many_left : 4 ≤ length left) (many_right : 4 ≤ length right) (was now : List Entry) (pushed : now ≡ (was ++ first ∷ []) ++ second ∷ []) where
+    module _ (too_many : 11 < length entries) (many_left : 4 ≤ length left) (many_right : 4 ≤ length right) (was now : List Entry) (pushed : now ≡ (was ++ first ∷ []) ++ second ∷ []) where
       both_entries : now ≡ was ++ record { at = at; cover = first.cover } ∷ record { at = other; cover = second.cover } ∷ []
       both_entries =
           pushed
@@ -179,6 +180,7 @@ module _ (said : Sayings) (w : Work) (at : CellRef) (level h : ℕ) (ts : List (
                 let inner = count_append n (cells_below h parts.second) [] in
                 omega arith);
             two = omega arith;
+            over = λ some. (let same = ap (length {A = Entry}) is.entries_are ∙ length-map ts (entry_of said h) in omega arith);
             account = account_then w (with_cell (with_taken w other) other (cell_of level second.cover right)) after [] (at.number ∷ []) (at.number ∷ []) (other.number ∷ []) [] 1 1
                 (account_take w other (cell_of level second.cover right) lowest
                 (node_bare (reading (with_cell (with_taken w other) other (cell_of level second.cover right))) other.number (written_kind (reading (with_cell (with_taken w other) other (cell_of level second.cover right))) other.number level second.cover right other_here)))

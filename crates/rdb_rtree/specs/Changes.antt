@@ -91,6 +91,7 @@ pub record AreSettled (said : Sayings) (before after : Work) (at : CellRef) (h :
   pub list : IsPermutation (versions_below h ts) (versions_below (suc h) (node ∷ others))
   pub places : IsPermutation (at.number ∷ (fresh ++ cells_below h ts)) (cells_below (suc h) (node ∷ others))
   pub two : length others ≤ 1
+  pub over : 0 < length others → most_entries < length ts
   pub account : IsAccount before after (at.number ∷ []) fresh 2
   pub few : length fresh ≤ 1
 
