@@ -11,7 +11,7 @@ use Rattle.rdb_cells.proofs.LinkLemmas.{among_or_not}
 
 -- what a test counts
 pub one_time : (b : Bool) → b ≡ true → cond {A = ℕ} b 1 0 ≡ 1
-one_time b yes = ap (λ (c : Bool). cond {A = ℕ} c 1 0) yes
+one_time b so = ap (λ (c : Bool). cond {A = ℕ} c 1 0) so
 
 pub no_time : (b : Bool) → b ≡ false → cond {A = ℕ} b 1 0 ≡ 0
 no_time b no_one = ap (λ (c : Bool). cond {A = ℕ} c 1 0) no_one

@@ -14,3 +14,4 @@ pub mod RootLemmas
 pub mod ChangedLemmas
 pub mod PutLemmas
 pub mod ShareLemmas
+pub mod OneTree

@@ -35,6 +35,10 @@ still_cell w at cell n there = elim (which n at.number) [
 pub one_cell : (image : Image) (n : ℕ) (c d : Cell) → image n ≡ Some c → image n ≡ Some d → c ≡ d
 one_cell image n c d is also = let same = sym is ∙ also in cc
 
+-- the entries of a node are those that it was made with
+pub refs_back : (level : ℕ) (cover : Rect) (refs : List CellRef) → take (length refs) (node_with level cover refs).entries ≡ refs
+refs_back level cover refs = take_at refs (replicate (11 - length refs) no_ref) (length refs) refl
+
 -- where the entries of trees stand, and their boxes
 pub places_of : (said : Sayings) (h : ℕ) (ts : List (RTree h)) → map (λ (e : Entry). e.at) (entries_above said h ts) ≡ map (place h) ts
 places_of said h [] = refl

@@ -20,6 +20,10 @@ use Rattle.rdb_rtree.specs.Standing.{AreSaid, IsKeyedAt, AreSound}
 use Rattle.rdb_rtree.specs.Trees.{Node, RTree, versions, cells, entry_of, HasProperBox, node_with, Stands, IsShaped, least_entries, Tree, root_of, versions_of, cells_of, TreeStands, IsRtree}
 use Rattle.rdb_rtree.specs.declared.entry.Entry.{Entry}
 
+-- the most entries of two nodes that are to share them
+abbrev pub most_shared : ℕ
+most_shared = 14
+
 -- the cell of the node of a level with this box and these entries
 abbrev pub cell_of : ℕ → Rect → List Entry → Cell
 cell_of level cover entries = rtree_node_cell (node_with level cover (map (λ entry. entry.at) entries))

@@ -1,11 +1,11 @@
 //! A version taken out of the tree: out of the leaf that has it, among the nodes whose box covers the version's; and a node that
 //! is left with too few entries takes in those of a sibling, or shares with it where they are too many for one node. It writes
 //! nodes and the head.
-ghost use Rattle.std.specs.Prelude.{◌≡◌, ◌≤◌, ◌<◌, ◌+◌, ◌*◌, ℕ, suc, List, length, Contains, Some, IfSome, IfNone};
+ghost use Rattle.std.specs.Prelude.{◌≡◌, ◌≤◌, ◌<◌, ◌+◌, ◌++◌, ◌*◌, ℕ, suc, List, length, Contains, Some, IfSome, IfNone};
 ghost use Rattle.rdb_cells.specs.Images.{IsCell};
 ghost use Rattle.rdb_cells.specs.Keys.{Sayings, says};
 ghost use Rattle.rdb_cells.specs.Work.{work, reading};
-ghost use Rattle.rdb_rtree.specs.Changes.{HasPlaces, versions_below, IsShrinking, HasShrunk, IsToMend, IsMended, IsToShare, AreShared, IsTreeRemoved};
+ghost use Rattle.rdb_rtree.specs.Changes.{most_shared, HasPlaces, versions_below, IsShrinking, HasShrunk, IsToMend, IsMended, IsToShare, AreShared, IsTreeRemoved};
 ghost use Rattle.rdb_rtree.specs.Nature.{IsRtreeIndex};
 ghost use Rattle.rdb_rtree.specs.Trees.{Node as NodeOf, RTree};
 
@@ -142,11 +142,20 @@ fn mend<C: Cells, K: Keys>(
     let place = least_grown(above.as_slice(), &cover_of(left.as_slice()));
     let sibling = above.remove(place);
     let others = entries_at(&*cells, keys, sibling.at, level);
-    let mut both = left;
-    for entry in others.as_slice() {
+    let both = together(left, others.as_slice());
+    share(cells, at, sibling.at, level, both, above);
+}
+
+/// Returns the entries of two nodes, the second's behind the first's.
+fn together(first: Entries, second: &[Entry]) -> Entries
+    requires { length first.items + length second.now ≤ most_shared }
+    ensures { result.items ≡ first.items ++ second.now }
+{
+    let mut both = first;
+    for entry in second {
         both.push(*entry);
     }
-    share(cells, at, sibling.at, level, both, above);
+    both
 }
 
 /// Writes the entries of two nodes into the first and gives the second back, or where they are too many writes both. Appends what
