@@ -12,7 +12,7 @@ use Rattle.rdb_cells.specs.Keys.{Meaning, says, IsUnlisted, RestsOnVersions, Lis
 use Rattle.rdb_cells.specs.Links.{IsAmong, AreOf, AreOnce}
 use Rattle.rdb_cells.specs.Records.{content}
 use Rattle.rdb_cells.specs.Words.{HasKind}
-use Rattle.rdb_cells.specs.Work.{Work, reading, IsBlank, IsLeft, TakesAtMost}
+use Rattle.rdb_cells.specs.Work.{Work, reading, IsBlank, IsLeft, TakesAtMost, TakesNone, TakesLowest}
 use Rattle.rdb_cells.proofs.IndexLemmas.{says_again, fewer_than}
 use Rattle.rdb_cells.proofs.LinkLemmas.{among_or_not}
 use Rattle.rdb_cells.proofs.ListedLemmas.{lists_more, lists_less, lists_in_order}
@@ -35,6 +35,10 @@ takes_more before after few many within takes = record {
   enough = λ n has. takes.enough n (fewer_than before (n + few) (n + many) (omega arith) has);
   no_more = takes.no_more;
 }
+
+-- who took no cell can take the same
+pub takes_nothing : (before after : Work) → TakesLowest before after [] → TakesNone before after
+takes_nothing before after lowest n = (λ left. ((lowest.left n).0 left).0, λ left. (lowest.left n).1 (left, λ none. none))
 
 module _ (class head : ℕ) (keys : Meaning) (before after : Work) (listed : List CellRef) (nodes : List ℕ) (is : IsRtreeIndex head (says keys (reading before)) (reading before) listed nodes) (fresh gone : List ℕ) (places : ℕ) (now : Tree) (changed : IsTreeChanged (says keys (reading before)) before after head fresh gone places is.tree now)
     (either : (fresh ≡ []) ⊎ (gone ≡ [])) where

@@ -74,7 +74,7 @@ module _ (keys : Meaning) (said : Sayings) (w : Work) (at : CellRef) (level : �
           k,
           grown.now,
           subst (λ (r : CellRef). IsToSettle said mid r (level - 1) k grown.now below) (sym (ap (λ (e : Entry). e.at) p.chosen_is))
-          (child_settles keys said w at level entry k t is p.front p.back p.one p.split mid below grown (low_level keys said (reading w) at level (suc k) t is.keyed)),
+              (child_settles keys said w at level entry k t is p.front p.back p.one p.split mid below grown (low_level keys said (reading w) at level (suc k) t is.keyed)),
         )
 
     pub pick_take : (h : ℕ) (t : Node (RTree h)) → IsGrowing keys said (reading w) at level entry h t → was ≡ entries_above said h t.below → HasLeft w level → CanTake mid
@@ -98,6 +98,6 @@ module _ (keys : Meaning) (said : Sayings) (w : Work) (at : CellRef) (level : �
         let grown = has k p.one (child_growing keys said w at level entry k t is p.front p.back p.one p.split chosen p.chosen_is) in
         let at_is = sym (ap (λ (e : Entry). e.at) p.chosen_is) in
         let settled = settles k grown.now (subst (λ (r : CellRef). IsToSettle said mid r (level - 1) k grown.now below) at_is
-            (child_settles keys said w at level entry k t is p.front p.back p.one p.split mid below grown (low_level keys said (reading w) at level (suc k) t is.keyed))) in
+        (child_settles keys said w at level entry k t is p.front p.back p.one p.split mid below grown (low_level keys said (reading w) at level (suc k) t is.keyed))) in
         grown_inner keys said w at level entry k t is p.front p.back p.one p.split mid below grown after rest now p.rest_are
         (subst (λ (r : CellRef). AreSettled said mid after r k grown.now rest now) (sym at_is) settled)

@@ -74,13 +74,13 @@ permutes {X} key same (x ∷ xs) ys alike =
     let here = picked key (key x) ys (let one = one_at_least key x xs in let both = alike (key x) in omega arith) in
     let is : ys ≡ here.front ++ x ∷ here.back = here.is ∙ ap (λ (y : X). here.front ++ y ∷ here.back) (same here.one x here.same) in
     let rest = permutes key same xs (here.front ++ here.back) (λ k.
-        let both = alike k in
-        let split = ap (times key k) is in
-        let first = times_cons key k x xs in
-        let whole = times_append key k here.front (x ∷ here.back) in
-        let behind = times_cons key k x here.back in
-        let without = times_append key k here.front here.back in
-        omega arith) in
+    let both = alike k in
+    let split = ap (times key k) is in
+    let first = times_cons key k x xs in
+    let whole = times_append key k here.front (x ∷ here.back) in
+    let behind = times_cons key k x here.back in
+    let without = times_append key k here.front here.back in
+    omega arith) in
     subst (IsPermutation (x ∷ xs)) (sym is)
     (IsPermutation-trans (x ∷ xs) (x ∷ (here.front ++ here.back)) (here.front ++ x ∷ here.back)
     (IsPermutation-cons x xs (here.front ++ here.back) rest)

@@ -15,3 +15,4 @@ pub mod ChangedLemmas
 pub mod PutLemmas
 pub mod ShareLemmas
 pub mod OneTree
+pub mod MendLemmas

@@ -73,7 +73,7 @@ map_swap : {X Y : Type 0} (f : X → Y) (xs : List X) (i j : ℕ) (d : X) → i 
 map_swap {X} {Y} f xs i j d first second =
     let many = length-map xs f in
     let here : map f (set xs i (get_or xs j d)) ≡ set (map f xs) i (get_or (map f xs) j (f d)) =
-        map-set f xs i (get_or xs j d) ∙ ap (λ (y : Y). set (map f xs) i y) (sym (get_or-map f xs j d (f d) second)) in
+    map-set f xs i (get_or xs j d) ∙ ap (λ (y : Y). set (map f xs) i y) (sym (get_or-map f xs j d (f d) second)) in
     ap (map f) (sym (swap_is xs i j d first second))
     ∙ map-set f (set xs i (get_or xs j d)) j (get_or xs i d)
     ∙ ap₂ (λ (ys : List Y) (y : Y). set ys j y) here (sym (get_or-map f xs i d (f d) first))
@@ -93,14 +93,14 @@ pub lifted : {X Y : Type 0} (f : X → Y) (xs : List X) (ys : List Y) → IsPerm
 lifted {X} {Y} f xs ys order =
     IsPermutation-keeps (map f xs) (IsLifted f xs) (record { list = xs; order = IsPermutation-refl xs; values = refl })
     (λ l i j first second so.
-        let many = ap (length {A = Y}) so.values ∙ length-map so.list f in
-        let low : i < length so.list = omega arith in
-        let high : j < length so.list = omega arith in
-        record {
-          list = swap so.list i j;
-          order = IsPermutation-trans xs so.list (swap so.list i j) so.order (IsPermutation-swap so.list (swap so.list i j) i j low high refl);
-          values = ap (λ (zs : List Y). swap zs i j) so.values ∙ sym (map_swap f so.list i j (head_of so.list i low) low high);
-        })
+    let many = ap (length {A = Y}) so.values ∙ length-map so.list f in
+    let low : i < length so.list = omega arith in
+    let high : j < length so.list = omega arith in
+    record {
+      list = swap so.list i j;
+      order = IsPermutation-trans xs so.list (swap so.list i j) so.order (IsPermutation-swap so.list (swap so.list i j) i j low high refl);
+      values = ap (λ (zs : List Y). swap zs i j) so.values ∙ sym (map_swap f so.list i j (head_of so.list i low) low high);
+    })
     ys order
 
 -- and if the other order is in two parts, so is the list

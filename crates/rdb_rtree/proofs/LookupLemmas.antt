@@ -47,8 +47,8 @@ child_at image at level (suc h) t is inner refs same i d below =
     let one_is : get_or t.below i here.one ≡ here.one = ap (λ (ts : List (RTree (suc h))). get_or ts i here.one) here.is ∙ got_middle here.front here.one here.back i here.one here.many in
     let stand = (each_back (Stands (suc h) image) here.front (here.one ∷ here.back) (subst (Each (Stands (suc h) image)) here.is is.stands.1)).0 in
     let shown : get_or refs i d ≡ place (suc h) here.one =
-        ap (λ (rs : List CellRef). get_or rs i d) (same ∙ ap (map (place (suc h))) here.is ∙ map_both (place (suc h)) here.front (here.one ∷ here.back))
-        ∙ got_middle (map (place (suc h)) here.front) (place (suc h) here.one) (map (place (suc h)) here.back) i d (length-map here.front (place (suc h)) ∙ here.many) in
+    ap (λ (rs : List CellRef). get_or rs i d) (same ∙ ap (map (place (suc h))) here.is ∙ map_both (place (suc h)) here.front (here.one ∷ here.back))
+    ∙ got_middle (map (place (suc h)) here.front) (place (suc h) here.one) (map (place (suc h)) here.back) i d (length-map here.front (place (suc h)) ∙ here.many) in
     let same_level = is.level_is in
     record {
       height = h;
@@ -76,8 +76,8 @@ keyed_child keys said image at level (suc h) t is inner entries same i d below =
     let stand = (each_back (Stands (suc h) image) here.front (here.one ∷ here.back) (subst (Each (Stands (suc h) image)) here.is is.tree.stands.1)).0 in
     let shape = (each_back (IsShaped said (suc h) least_entries) here.front (here.one ∷ here.back) (subst (Each (IsShaped said (suc h) least_entries)) here.is is.shaped)).0 in
     let shown : get_or entries i d ≡ entry_of said (suc h) here.one =
-        ap (λ (es : List Entry). get_or es i d) (same ∙ ap (entries_above said (suc h)) here.is ∙ map_both (entry_of said (suc h)) here.front (here.one ∷ here.back))
-        ∙ got_middle (map (entry_of said (suc h)) here.front) (entry_of said (suc h) here.one) (map (entry_of said (suc h)) here.back) i d (length-map here.front (entry_of said (suc h)) ∙ here.many) in
+    ap (λ (es : List Entry). get_or es i d) (same ∙ ap (entries_above said (suc h)) here.is ∙ map_both (entry_of said (suc h)) here.front (here.one ∷ here.back))
+    ∙ got_middle (map (entry_of said (suc h)) here.front) (entry_of said (suc h) here.one) (map (entry_of said (suc h)) here.back) i d (length-map here.front (entry_of said (suc h)) ∙ here.many) in
     let same_level = is.tree.level_is in
     record {
       height = h;

@@ -117,8 +117,8 @@ module _ (keys : Meaning) (said : Sayings) (image : Image) (at : CellRef) (level
       let stand = (each_back (Stands h image) here.front (here.one ∷ here.back) (subst (Each (Stands h image)) here.is is.tree.stands.1)).0 in
       let shape = (each_back (IsShaped said h least_entries) here.front (here.one ∷ here.back) (subst (Each (IsShaped said h least_entries)) here.is is.shaped)).0 in
       let shown : get_or refs i d ≡ place h here.one =
-          ap (λ (rs : List CellRef). get_or rs i d) (same ∙ ap (map (place h)) here.is ∙ map_both (place h) here.front (here.one ∷ here.back))
-          ∙ got_middle (map (place h) here.front) (place h here.one) (map (place h) here.back) i d (length-map here.front (place h) ∙ here.many) in
+      ap (λ (rs : List CellRef). get_or rs i d) (same ∙ ap (map (place h)) here.is ∙ map_both (place h) here.front (here.one ∷ here.back))
+      ∙ got_middle (map (place h) here.front) (place h here.one) (map (place h) here.back) i d (length-map here.front (place h) ∙ here.many) in
       record {
         one = here.one;
         is = record { at_is = sym shown; level_is = is.tree.level_is; says = is.says; stands = stand; shaped = shape };

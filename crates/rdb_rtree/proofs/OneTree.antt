@@ -64,5 +64,5 @@ module _ (head : ℕ) (said again : Sayings) (image : Image) (listed others : Li
   pub same_listed : listed ≡ others
   same_listed =
       let roots = root_read image head (root_of is.tree) (root_of also.tree) (index_head_cell (rooted_head (root_of also.tree))) is.leads also.leads
-          (ap (λ (head_read : IndexHead). slice_get head_read.roots 0) (index_head_back (rooted_head (root_of also.tree)) refl)) in
+      (ap (λ (head_read : IndexHead). slice_get head_read.roots 0) (index_head_back (rooted_head (root_of also.tree)) refl)) in
       is.listed_is ∙ by_trees is.tree also.tree roots is.nodes_are also.nodes_are is.stands also.stands ∙ sym also.listed_is

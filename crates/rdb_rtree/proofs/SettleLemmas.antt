@@ -62,7 +62,7 @@ module _ (said : Sayings) (w : Work) (at : CellRef) (level h : ℕ) (ts : List (
           entries = written_entry was now r at written.at_is pushed;
           stand = (
             written_stands said level h ts entries r.cover is.level_is is.entries_are (reading (with_cell w at (cell_of level r.cover entries))) at written.proper here
-            (all_stand_still (reading w) (reading (with_cell w at (cell_of level r.cover entries))) h ts one_frame is.sound.stand),
+                (all_stand_still (reading w) (reading (with_cell w at (cell_of level r.cover entries))) h ts one_frame is.sound.stand),
             tt,
           );
           shaped = λ least enough four. (written_shaped said level h ts entries r.cover is.level_is is.entries_are at least enough written.covers is.sound.shaped, tt);
@@ -149,10 +149,10 @@ module _ (said : Sayings) (w : Work) (at : CellRef) (level h : ℕ) (ts : List (
             entries = both_entries;
             stand = (
               written_stands said level h parts.first left first.cover is.level_is parts.first_is (reading after) at is_first.proper here
-              (all_stand_still (reading w) (reading after) h parts.first (λ n within. below_frame n (in_first h ts parts.first parts.second parts.order n within)) (each_front (Stands h (reading w)) parts.first parts.second stand)),
+                  (all_stand_still (reading w) (reading after) h parts.first (λ n within. below_frame n (in_first h ts parts.first parts.second parts.order n within)) (each_front (Stands h (reading w)) parts.first parts.second stand)),
               (
                 written_stands said level h parts.second right second.cover is.level_is parts.second_is (reading after) other is_second.proper there
-                (all_stand_still (reading w) (reading after) h parts.second (λ n within. below_frame n (in_second h ts parts.first parts.second parts.order n within)) (each_back (Stands h (reading w)) parts.first parts.second stand)),
+                    (all_stand_still (reading w) (reading after) h parts.second (λ n within. below_frame n (in_second h ts parts.first parts.second parts.order n within)) (each_back (Stands h (reading w)) parts.first parts.second stand)),
                 tt,
               ),
             );

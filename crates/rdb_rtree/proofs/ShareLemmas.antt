@@ -61,7 +61,7 @@ module _ (said : Sayings) (w : Work) (at other : CellRef) (level h : ℕ) (ts : 
           sound = record {
             stand = (
               written_stands said level h ts entries r.cover is.level_is is.entries_are (reading (with_cell (with_cell w other zero_cell) at (cell_of level r.cover entries))) at written.proper (here (cell_of level r.cover entries) zero_cell)
-              (all_stand_still (reading w) (reading (with_cell (with_cell w other zero_cell) at (cell_of level r.cover entries))) h ts (frame (cell_of level r.cover entries) zero_cell) is.sound.stand),
+                  (all_stand_still (reading w) (reading (with_cell (with_cell w other zero_cell) at (cell_of level r.cover entries))) h ts (frame (cell_of level r.cover entries) zero_cell) is.sound.stand),
               tt,
             );
             shaped = (written_shaped said level h ts entries r.cover is.level_is is.entries_are at 4 is.enough written.covers is.sound.shaped, tt);
@@ -117,10 +117,10 @@ module _ (said : Sayings) (w : Work) (at other : CellRef) (level h : ℕ) (ts : 
           sound = record {
             stand = (
               written_stands said level h parts.first left first.cover is.level_is parts.first_is (reading after) at is_first.proper (here (cell_of level first.cover left) (cell_of level second.cover right))
-              (all_stand_still (reading w) (reading after) h parts.first (λ n within. frame (cell_of level first.cover left) (cell_of level second.cover right) n (in_first h ts parts.first parts.second parts.order n within)) (each_front (Stands h (reading w)) parts.first parts.second stand)),
+                  (all_stand_still (reading w) (reading after) h parts.first (λ n within. frame (cell_of level first.cover left) (cell_of level second.cover right) n (in_first h ts parts.first parts.second parts.order n within)) (each_front (Stands h (reading w)) parts.first parts.second stand)),
               (
                 written_stands said level h parts.second right second.cover is.level_is parts.second_is (reading after) other is_second.proper (there (cell_of level first.cover left) (cell_of level second.cover right))
-                (all_stand_still (reading w) (reading after) h parts.second (λ n within. frame (cell_of level first.cover left) (cell_of level second.cover right) n (in_second h ts parts.first parts.second parts.order n within)) (each_back (Stands h (reading w)) parts.first parts.second stand)),
+                    (all_stand_still (reading w) (reading after) h parts.second (λ n within. frame (cell_of level first.cover left) (cell_of level second.cover right) n (in_second h ts parts.first parts.second parts.order n within)) (each_back (Stands h (reading w)) parts.first parts.second stand)),
                 tt,
               ),
             );

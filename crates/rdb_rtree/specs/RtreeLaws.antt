@@ -262,8 +262,8 @@ module _ (class head : ℕ) where
   rtree_rests_on_nodes said image listed nodes is again after says same =
       let own : SameOn (cells_of is.tree) image after = λ n within. same n (inr (subst (λ (ns : List ℕ). IsAmong ns n) (sym is.nodes_are) within)) in
       let alike : Each (λ r. again.version_of r.number ≡ said.version_of r.number) (versions_of is.tree) =
-          subst (λ (rs : List CellRef). Each (λ r. again.version_of r.number ≡ said.version_of r.number) rs) is.listed_is
-          (each_of (λ r. again.version_of r.number ≡ said.version_of r.number) listed says.versions) in
+      subst (λ (rs : List CellRef). Each (λ r. again.version_of r.number ≡ said.version_of r.number) rs) is.listed_is
+      (each_of (λ r. again.version_of r.number ≡ said.version_of r.number) listed says.versions) in
       record {
         tree = is.tree;
         leads = same head (inl refl) ∙ is.leads;

@@ -25,11 +25,11 @@ returns-clause-settled g c = λ said h ts is.
     let is_second = written_by c.args.level c.as_slice-2.result.now c.split-left.result.1.items c.take-other.result c.put_node-second.result c.as_slice-2.ensures.value c.put_node-second.ensures.at c.put_node-second.ensures.cover c.put_node-second.ensures.proper in
     let is_first = written_by c.args.level c.as_slice-3.result.now c.split-left.result.0.items c.args.at c.put_node-first.result c.as_slice-3.ensures.value c.put_node-first.ensures.at c.put_node-first.ensures.cover c.put_node-first.ensures.proper in
     let behind = c.put_node-second.ensures.work
-        ∙ ap (λ (v : Work). with_cell v c.take-other.result (cell_of c.args.level c.put_node-second.result.cover c.as_slice-2.result.now)) taken
-        ∙ ap (λ (es : List Entry). with_cell (with_taken (work g.C.Cells c.args.cells.now) c.take-other.result) c.take-other.result (cell_of c.args.level c.put_node-second.result.cover es)) c.as_slice-2.ensures.value in
+    ∙ ap (λ (v : Work). with_cell v c.take-other.result (cell_of c.args.level c.put_node-second.result.cover c.as_slice-2.result.now)) taken
+    ∙ ap (λ (es : List Entry). with_cell (with_taken (work g.C.Cells c.args.cells.now) c.take-other.result) c.take-other.result (cell_of c.args.level c.put_node-second.result.cover es)) c.as_slice-2.ensures.value in
     let made = c.put_node-first.ensures.work
-        ∙ ap (λ (v : Work). with_cell v c.args.at (cell_of c.args.level c.put_node-first.result.cover c.as_slice-3.result.now)) behind
-        ∙ ap (λ (es : List Entry). with_cell (with_cell (with_taken (work g.C.Cells c.args.cells.now) c.take-other.result) c.take-other.result (cell_of c.args.level c.put_node-second.result.cover c.split-left.result.1.items)) c.args.at (cell_of c.args.level c.put_node-first.result.cover es)) c.as_slice-3.ensures.value in
+    ∙ ap (λ (v : Work). with_cell v c.args.at (cell_of c.args.level c.put_node-first.result.cover c.as_slice-3.result.now)) behind
+    ∙ ap (λ (es : List Entry). with_cell (with_cell (with_taken (work g.C.Cells c.args.cells.now) c.take-other.result) c.take-other.result (cell_of c.args.level c.put_node-second.result.cover c.split-left.result.1.items)) c.args.at (cell_of c.args.level c.put_node-first.result.cover es)) c.as_slice-3.ensures.value in
     let over = c.if-len-le-RTREE_ENTRIES.false in
     let many = c.len.ensures.value in
     subst (λ (v : Work). AreSettled said (work g.C.Cells c.args.cells.now) v c.args.at h ts c.args.above.now.items c.push-3.new.self.items) (sym made)

@@ -41,7 +41,7 @@ loop-place-preserved g m c = λ said h t is.
           (ap (λ (rs : List CellRef). c.loop-place.refs ++ rs) (sym parts) ∙ c.loop-place.invariant said h t is)
       | else-overlaps w ↦
           let nothing = none_found said c.args.rect.now c.args.inside child.child.cover (versions (suc child.height) child.child) (versions_lie said (suc child.height) least_entries child.child child.shape)
-              (ap (λ (b : Rect). overlaps b c.args.rect.now) (sym child.cover_is) ∙ sym c.overlaps.ensures ∙ w.if-overlaps.false) in
+          (ap (λ (b : Rect). overlaps b c.args.rect.now) (sym child.cover_is) ∙ sym c.overlaps.ensures ∙ w.if-overlaps.false) in
           gather_step c.loop-place.refs c.if-overlaps.refs [] (found_in said c.args.rect.now c.args.inside (flat_map (versions h) (drop (c.loop-place.place + 1) t.below))) (c.args.refs.now ++ found_in said c.args.rect.now c.args.inside (versions (suc h) t))
           (w.refs-is ∙ sym (append-nil c.loop-place.refs))
           (ap (λ (rs : List CellRef). c.loop-place.refs ++ rs) (sym (parts ∙ ap (λ (rs : List CellRef). rs ++ found_in said c.args.rect.now c.args.inside (flat_map (versions h) (drop (c.loop-place.place + 1) t.below))) nothing)) ∙ c.loop-place.invariant said h t is)
