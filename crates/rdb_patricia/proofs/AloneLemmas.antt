@@ -1,5 +1,5 @@
 -- A remove of the only entry of a key, below a branch: the first cell of the branch's other side moves into the branch's cell.
-use Rattle.std.proofs.Common.{◌≡◌, ◌≢◌, ◌<◌, ◌≤◌, ◌+◌, ◌⊎◌, ◌++◌, ℕ, suc, List, [], ◌∷◌, length, get_or, Option, Some, None, IsSome, Bool, true, false, not, inl, inr, refl, sym, ap, subst, ◌∙◌, arith, rules}
+use Rattle.std.proofs.Common.{◌≡◌, ◌≢◌, ◌⊎◌, ◌++◌, ℕ, List, [], ◌∷◌, get_or, Option, Some, IsSome, Bool, true, false, not, inl, inr, refl, sym, ap, subst, ◌∙◌, arith, rules}
 use Rattle.std.proofs.Permutation.{which}
 use Rattle.std.proofs.lemmas.List.{append-nil}
 use Rattle.std.proofs.lemmas.List.Sorted.{IsPermutation-refl, IsPermutation-sym, IsPermutation-middle}
@@ -11,7 +11,7 @@ use Rattle.rdb_pages.specs.Pages.{zero_cell}
 use Rattle.rdb_cells.specs.declared.kind.Kind.TheVariants as kind
 use Rattle.rdb_cells.specs.Images.{Image, IsCell, Writes}
 use Rattle.rdb_cells.specs.Keys.{Meaning, says, IsOfVersion, HasNoVersionCell, RestsOnVersions}
-use Rattle.rdb_cells.specs.Links.{IsAmong, IsHeld, Node, Stand, Placed, elements, start, numbers}
+use Rattle.rdb_cells.specs.Links.{IsAmong, IsHeld, Node, Stand, Placed, start, numbers}
 use Rattle.rdb_cells.specs.PatriciaFormat.{branch_in}
 use Rattle.rdb_cells.specs.Words.{HasKind, IsOfKind}
 use Rattle.rdb_cells.specs.Work.{Work, reading, IsBlank, IsLeft}
@@ -21,7 +21,7 @@ use Rattle.rdb_patricia.specs.Bits.{text_at}
 use Rattle.rdb_patricia.specs.Changes.{IsRemoved, GoesAlone, putting, side_cell}
 use Rattle.rdb_patricia.specs.Shape.{Texts, IsShaped, IsShapedTree, IsTree, IsBelow, patricia_nature}
 use Rattle.rdb_patricia.specs.Trie.{Held, Branch, Entry, Trie, Entries, Parted, IsWritten, entry_nodes, trie_nodes, nodes_of, versions_of, versions, root}
-use Rattle.rdb_patricia.specs.Walks.{Turn, plug, parent_of, side_of}
+use Rattle.rdb_patricia.specs.Walks.{Turn, plug}
 use Rattle.rdb_patricia.specs.declared.walk.Found.{Found}
 use Rattle.rdb_patricia.specs.declared.walk.Spot.{Spot}
 use Rattle.rdb_patricia.proofs.BehindLemmas.{part_standing}
@@ -31,7 +31,7 @@ use Rattle.rdb_patricia.proofs.HungLemmas.{IsHung, tree_hung, hung_tree, hung_go
 use Rattle.rdb_patricia.proofs.ListingLemmas.{same_cell}
 use Rattle.rdb_patricia.proofs.NodeLemmas.{frame, own_node, Hangs, hangs_part, root_branched, own_number, transfer, inside}
 use Rattle.rdb_patricia.proofs.PlugLemmas.{branched, part_shaped}
-use Rattle.rdb_patricia.proofs.ShapeLemmas.{Suits, suits_within, FitsBelow, fits_within, plug_shaped, plug_order, other_shaped, other_within}
+use Rattle.rdb_patricia.proofs.ShapeLemmas.{suits_within, FitsBelow, fits_within, plug_shaped, plug_order, other_shaped, other_within}
 
 -- the first node of a trie in a cell, the others, and the trie with its first node there
 abbrev pub top_node : ℕ → Trie → Node Held

@@ -1,5 +1,5 @@
 -- A remove of an entry behind another one of its key.
-use Rattle.std.proofs.Common.{◌≡◌, ◌≢◌, ◌<◌, ◌≤◌, ◌+◌, ◌⊎◌, ◌++◌, ℕ, List, [], ◌∷◌, length, Option, Some, inl, inr, refl, sym, ap, subst, ◌∙◌, arith}
+use Rattle.std.proofs.Common.{◌≡◌, ◌≢◌, ◌⊎◌, ◌++◌, ℕ, List, [], ◌∷◌, Option, Some, inl, inr, refl, sym, ap, subst, ◌∙◌, arith}
 use Rattle.std.proofs.lemmas.List.{append_assoc}
 use Rattle.std.proofs.Permutation.{which}
 use Rattle.std.specs.Prelude.{IsPermutation}
@@ -17,7 +17,7 @@ use Rattle.rdb_cells.proofs.LinkLemmas.{stand_parts}
 use Rattle.rdb_cells.proofs.WorkLemmas.{put_reads}
 use Rattle.rdb_patricia.specs.Bits.{text_at}
 use Rattle.rdb_patricia.specs.Changes.{IsRemoved, GoesBehind, IsEntryCell, putting}
-use Rattle.rdb_patricia.specs.Shape.{IsShaped, IsShapedTree, patricia_nature}
+use Rattle.rdb_patricia.specs.Shape.{IsShapedTree, patricia_nature}
 use Rattle.rdb_patricia.specs.Trie.{Held, Entry, Trie, Entries, IsWritten, entry_nodes, trie_nodes, nodes_of, versions_of, versions}
 use Rattle.rdb_patricia.specs.Walks.{Turn, plug, parent_of, side_of, IsAt}
 use Rattle.rdb_patricia.specs.declared.walk.Found.{Found}

@@ -1,10 +1,10 @@
 -- Bytes with the same bits are the same, and the bytes of a key are those of its text.
-use Rattle.std.proofs.Common.{◌≡◌, ◌≢◌, ◌==◌, ◌<◌, ◌≤◌, ◌+◌, ◌*◌, ◌/◌, ◌%◌, ◌^◌, ◌⊎◌, zero, suc, ℕ, List, [], length, slice_get, Option, Some, None, IsSome, Bool, true, false, inl, inr, refl, sym, ap, subst, ◌∙◌, arith, rules, eq-eqb}
-use Rattle.std.proofs.lemmas.Bool.{false≢true, ne_eqb}
+use Rattle.std.proofs.Common.{◌≡◌, ◌==◌, ◌<◌, ◌+◌, ◌*◌, ◌/◌, ◌%◌, zero, suc, ℕ, List, [], slice_get, Option, Some, None, IsSome, refl, sym, ap, ◌∙◌, arith}
+use Rattle.std.proofs.lemmas.Bool.{false≢true}
 use Rattle.std.specs.Option.{option_map_or}
 use Rattle.rdb_pages.specs.declared.cell.CellRef.{CellRef}
 use Rattle.rdb_cells.specs.Images.{Image}
-use Rattle.rdb_cells.specs.Keys.{Meaning, Sayings, Version, says, text_of, HasText, IsByteAt}
+use Rattle.rdb_cells.specs.Keys.{Meaning, says, text_of, HasText, IsByteAt}
 use Rattle.rdb_patricia.specs.Bits.{bit_in, text_in, text_at, HasTextKey}
 
 -- the text of a key

@@ -1,6 +1,5 @@
 -- The entries of a key: one goes from among them, and which stand from a cell on.
-use Rattle.std.proofs.Common.{◌≡◌, ◌≢◌, ◌<◌, ◌⊎◌, ◌++◌, ℕ, suc, List, [], ◌∷◌, length, get_or, Option, Some, None, inl, inr, refl, sym, ap, ap₂, subst, ◌∙◌, arith}
-use Rattle.std.proofs.lemmas.List.{append_assoc}
+use Rattle.std.proofs.Common.{◌≡◌, ◌≢◌, ◌++◌, ℕ, suc, List, [], ◌∷◌, length, get_or, refl, sym, ap, ap₂, subst, ◌∙◌, arith}
 use Rattle.std.proofs.lemmas.List.Sorted.{IsPermutation-sym, IsPermutation-middle, Contains-permutation}
 use Rattle.std.specs.List.{Contains}
 use Rattle.std.specs.Prelude.{IsPermutation}
@@ -10,13 +9,12 @@ use Rattle.rdb_cells.specs.Images.{Image}
 use Rattle.rdb_cells.specs.Links.{Node, Stand, Placed, elements, start}
 use Rattle.rdb_cells.specs.PatriciaFormat.{patricia_entry_in}
 use Rattle.rdb_cells.proofs.LinkLemmas.{elements_append}
-use Rattle.rdb_cells.proofs.ListedLemmas.{contains_either, contains_later}
+use Rattle.rdb_cells.proofs.ListedLemmas.{contains_later}
 use Rattle.rdb_patricia.specs.Shape.{Texts, IsShaped}
-use Rattle.rdb_patricia.specs.Trie.{Held, Entry, Trie, Entries, Parted, IsWritten, entry_nodes, root, root_of, nodes_of, versions, versions_of}
-use Rattle.rdb_patricia.specs.Walks.{IsLast, IsPart, Turn, plug, parent_of}
+use Rattle.rdb_patricia.specs.Trie.{Held, Entry, Entries, IsWritten, entry_nodes, versions}
+use Rattle.rdb_patricia.specs.Walks.{IsLast, Turn, plug}
 use Rattle.rdb_patricia.proofs.ListingLemmas.{same_cell}
 use Rattle.rdb_patricia.proofs.NearLemmas.{entries_key}
-use Rattle.rdb_patricia.proofs.NodeLemmas.{Hangs, hangs_part, hangs_none}
 use Rattle.rdb_patricia.proofs.PlugLemmas.{part_shaped}
 use Rattle.rdb_patricia.proofs.ShapeLemmas.{suits_within, FitsBelow, plug_shaped, plug_order}
 

@@ -1,5 +1,5 @@
 -- An empty Patricia index, with keys that are all one text.
-use Rattle.std.proofs.Common.{◌≡◌, ◌<◌, ◌≤◌, ◌^◌, ℕ, List, [], length, slice_get, Option, Some, IsSome, refl, sym, ap, subst, ◌∙◌, arith, rules}
+use Rattle.std.proofs.Common.{◌≡◌, ◌<◌, ◌≤◌, ◌^◌, ℕ, List, [], length, slice_get, Option, Some, IsSome, sym, ap, subst, ◌∙◌, arith, rules}
 use Rattle.std.specs.List.{Contains}
 use Rattle.std.specs.Option.{option_map_or}
 use Rattle.rdb_base.specs.declared.value.Value.{Value}

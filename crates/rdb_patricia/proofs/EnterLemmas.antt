@@ -1,28 +1,26 @@
 -- A put where the version's key is listed, or nothing is: the entry comes before those of its key.
-use Rattle.std.proofs.Common.{◌≡◌, ◌≢◌, ◌<◌, ◌+◌, ◌⊎◌, ◌++◌, ℕ, List, [], ◌∷◌, length, Option, Some, None, inl, inr, refl, sym, ap, subst, ◌∙◌, arith}
-use Rattle.std.proofs.lemmas.List.Sorted.{IsPermutation-refl}
-use Rattle.std.specs.List.{Contains}
+use Rattle.std.proofs.Common.{◌≡◌, ◌+◌, ℕ, List, [], ◌∷◌, Option, inl, inr, refl, sym, ap, subst, ◌∙◌, arith}
 use Rattle.std.specs.Prelude.{IsPermutation}
 use Rattle.rdb_pages.specs.declared.cell.Cell.{Cell}
 use Rattle.rdb_pages.specs.declared.cell.CellRef.{CellRef}
 use Rattle.rdb_cells.specs.declared.formats.patricia.PatriciaEntry.{PatriciaEntry}
 use Rattle.rdb_cells.specs.Images.{Writes}
 use Rattle.rdb_cells.specs.Keys.{Meaning, Sayings, says, RestsOnVersions}
-use Rattle.rdb_cells.specs.Links.{IsAmong, Placed, elements, start, Node, numbers}
+use Rattle.rdb_cells.specs.Links.{IsAmong, Placed, start, Node, numbers}
 use Rattle.rdb_cells.specs.Parts.{patricia_part}
 use Rattle.rdb_cells.specs.Work.{Work, reading, IsBlank, IsLeft, TakesAtMost}
 use Rattle.rdb_cells.proofs.IndexLemmas.{fewer_than}
 use Rattle.rdb_cells.proofs.WorkLemmas.{put_reads, left_blank, take_one, taken_spent, lowest_take}
-use Rattle.rdb_patricia.specs.Bits.{bit_at, all_bits, text_at, HasTextKey}
-use Rattle.rdb_patricia.specs.Changes.{IsPut, Enters, IsEntryCell, putting, taking, Leads}
-use Rattle.rdb_patricia.specs.Shape.{IsShaped, IsShapedTree, IsPatricia, patricia_nature}
-use Rattle.rdb_patricia.specs.Trie.{Held, Entry, Trie, Entries, IsWritten, entry_nodes, nodes_of, versions_of, versions, root_of}
-use Rattle.rdb_patricia.specs.Walks.{Turn, plug, Follows, parent_of, side_of}
+use Rattle.rdb_patricia.specs.Bits.{text_at, HasTextKey}
+use Rattle.rdb_patricia.specs.Changes.{IsPut, Enters, IsEntryCell, putting, taking}
+use Rattle.rdb_patricia.specs.Shape.{IsShapedTree, patricia_nature}
+use Rattle.rdb_patricia.specs.Trie.{Held, Entry, Trie, IsWritten, entry_nodes, nodes_of, versions_of}
+use Rattle.rdb_patricia.specs.Walks.{Turn, parent_of, side_of}
 use Rattle.rdb_patricia.specs.declared.walk.Spot.{Spot}
 use Rattle.rdb_patricia.proofs.EditLemmas.{Edits, no_edits, edit_more, bare_entry, none_where_free, lead_bare, lead_none, lead_spent, lead_filled}
 use Rattle.rdb_patricia.proofs.FinishLemmas.{Standing, Comes, is_put}
 use Rattle.rdb_patricia.proofs.HungLemmas.{IsHung, tree_hung, hung_tree, hung_comes, hung_led, lead_within}
-use Rattle.rdb_patricia.proofs.NodeLemmas.{frame, Hangs, hangs_part, hangs_none, transfer, inside}
+use Rattle.rdb_patricia.proofs.NodeLemmas.{frame, Hangs, transfer, inside}
 
 -- the cell of an entry
 pub entry_written : (cell : Cell) (next version : CellRef) (leads : ℕ) → IsEntryCell cell next version → next.number ≡ leads → IsWritten cell (Entry version) (leads ∷ [])

@@ -1,6 +1,5 @@
 -- The key that is a text, found at the leaf to which it leads.
-use Rattle.std.proofs.Common.{◌≡◌, ◌≢◌, ◌&&◌, ℕ, zero, suc, List, [], ◌∷◌, eqb, Option, Some, None, Bool, true, false, inl, inr, refl, sym, ap, ap₂, subst, ◌∙◌, arith, rules, eq-eqb}
-use Rattle.std.proofs.lemmas.Bool.{false≢true}
+use Rattle.std.proofs.Common.{◌≡◌, ◌≢◌, ◌&&◌, ℕ, List, [], ◌∷◌, eqb, Some, None, Bool, true, false, inl, inr, refl, sym, ap, ap₂, subst, ◌∙◌, eq-eqb}
 use Rattle.std.specs.Cmp.Lexicographic.{pointwise, same_text}
 use Rattle.std.specs.List.{Contains, filter}
 use Rattle.rdb_pages.specs.declared.cell.CellRef.{CellRef}
@@ -12,9 +11,9 @@ use Rattle.rdb_patricia.specs.declared.how.How.TheVariants.{Exact}
 use Rattle.rdb_patricia.specs.declared.walk.Leaf.{Leaf}
 use Rattle.rdb_patricia.specs.Bits.{bit_at, all_bits, text_at, HasTextKey}
 use Rattle.rdb_patricia.specs.Lookup.{matches}
-use Rattle.rdb_patricia.specs.Shape.{Texts, IsShaped}
+use Rattle.rdb_patricia.specs.Shape.{IsShaped}
 use Rattle.rdb_patricia.specs.Trie.{Trie, Entries, versions, root}
-use Rattle.rdb_patricia.specs.Walks.{IsPart, Turn, plug, Follows, IsKeyed, IsLeaf, GivesPart}
+use Rattle.rdb_patricia.specs.Walks.{IsPart, Turn, plug, IsKeyed, IsLeaf, GivesPart}
 use Rattle.rdb_patricia.proofs.PlugLemmas.{PassOthers, part_shaped, passes, part_within, part_stands, filter_none, filter_all, MissOthers, filtered}
 
 -- a text is level with itself alone

@@ -1,5 +1,5 @@
 -- What an index owes of a change, from what becomes of its tree.
-use Rattle.std.proofs.Common.{◌≡◌, ◌≤◌, ◌+◌, ◌⊎◌, ◌++◌, ℕ, List, [], ◌∷◌, length, Option, Some, inl, inr, refl, sym, ap, subst, ◌∙◌, arith}
+use Rattle.std.proofs.Common.{◌≡◌, ◌≤◌, ◌⊎◌, ◌++◌, ℕ, List, ◌∷◌, length, Option, Some, inl, inr, refl, sym, subst, arith}
 use Rattle.std.proofs.lemmas.List.Sorted.{IsPermutation-sym, Contains-permutation}
 use Rattle.std.specs.List.{Contains}
 use Rattle.std.specs.Prelude.{IsPermutation}
@@ -7,7 +7,7 @@ use Rattle.rdb_pages.specs.declared.cell.CellRef.{CellRef}
 use Rattle.rdb_pages.specs.Pages.{zero_cell}
 use Rattle.rdb_cells.specs.Index.{KeepsAccount, IsOwn}
 use Rattle.rdb_cells.specs.Keys.{Meaning, says, RestsOnVersions, IsUnlisted, ListsVersions}
-use Rattle.rdb_cells.specs.Links.{IsAmong, AreOf, numbers}
+use Rattle.rdb_cells.specs.Links.{IsAmong, numbers}
 use Rattle.rdb_cells.specs.Parts.{patricia_part}
 use Rattle.rdb_cells.specs.PlainLaws.{lists_again}
 use Rattle.rdb_cells.specs.Work.{Work, reading, IsBlank, IsLeft, TakesAtMost, TakesLowest}

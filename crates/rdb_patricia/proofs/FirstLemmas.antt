@@ -1,5 +1,5 @@
 -- A remove of the first entry of a key, where another one follows or the tree has no other: the next one hangs in its place.
-use Rattle.std.proofs.Common.{◌≡◌, ◌≢◌, ◌<◌, ◌≤◌, ◌+◌, ◌⊎◌, ◌++◌, ℕ, suc, List, [], ◌∷◌, length, Option, Some, None, inl, inr, refl, sym, ap, subst, ◌∙◌, arith}
+use Rattle.std.proofs.Common.{◌≡◌, ◌≢◌, ◌⊎◌, ◌++◌, ℕ, suc, List, [], ◌∷◌, length, Option, Some, None, inl, inr, refl, sym, ap, subst, ◌∙◌, arith}
 use Rattle.std.proofs.Permutation.{which}
 use Rattle.std.proofs.lemmas.List.Sorted.{IsPermutation-refl}
 use Rattle.std.specs.Prelude.{IsPermutation}
@@ -14,10 +14,10 @@ use Rattle.rdb_cells.specs.Work.{Work, reading, IsBlank}
 use Rattle.rdb_cells.proofs.PlainLemmas.{one_kind}
 use Rattle.rdb_cells.proofs.WorkLemmas.{put_reads}
 use Rattle.rdb_patricia.specs.Bits.{text_at}
-use Rattle.rdb_patricia.specs.Changes.{IsRemoved, GoesFirst, putting, Leads}
+use Rattle.rdb_patricia.specs.Changes.{IsRemoved, GoesFirst, putting}
 use Rattle.rdb_patricia.specs.Shape.{Texts, IsShaped, IsShapedTree, patricia_nature}
-use Rattle.rdb_patricia.specs.Trie.{Held, Entry, Trie, Entries, IsWritten, entry_nodes, trie_nodes, nodes_of, versions_of, versions, root}
-use Rattle.rdb_patricia.specs.Walks.{Turn, plug, parent_of, side_of}
+use Rattle.rdb_patricia.specs.Trie.{Held, Entry, Trie, Entries, IsWritten, entry_nodes, nodes_of, versions_of, versions, root}
+use Rattle.rdb_patricia.specs.Walks.{Turn, plug, parent_of}
 use Rattle.rdb_patricia.specs.declared.walk.Found.{Found}
 use Rattle.rdb_patricia.specs.declared.walk.Spot.{Spot}
 use Rattle.rdb_patricia.proofs.BehindLemmas.{Sits, sits_hangs, part_standing}

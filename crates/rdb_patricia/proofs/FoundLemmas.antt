@@ -1,5 +1,5 @@
 -- What a look-up lists, in whatever tree stands.
-use Rattle.std.proofs.Common.{◌≡◌, ◌≢◌, ◌++◌, ℕ, List, [], ◌∷◌, Option, Some, None, Bool, refl, sym, ap, subst, ◌∙◌}
+use Rattle.std.proofs.Common.{◌≡◌, ◌≢◌, ◌++◌, ℕ, List, [], Some, sym, ap, subst, ◌∙◌}
 use Rattle.std.proofs.lemmas.List.Sorted.{IsPermutation-refl}
 use Rattle.std.specs.List.{filter}
 use Rattle.std.specs.Prelude.{IsPermutation}
@@ -11,9 +11,9 @@ use Rattle.rdb_patricia.specs.declared.how.How.{How}
 use Rattle.rdb_patricia.specs.Bits.{text_at}
 use Rattle.rdb_patricia.specs.Lookup.{matches}
 use Rattle.rdb_patricia.specs.Shape.{IsPatricia}
-use Rattle.rdb_patricia.specs.Trie.{Trie, versions, versions_of}
-use Rattle.rdb_patricia.specs.Walks.{IsPart, WhateverTrie, IsKeyed, ListsBelow, GivesPart}
-use Rattle.rdb_patricia.proofs.GrownLemmas.{part_of, empty_tree, Grown, grown}
+use Rattle.rdb_patricia.specs.Trie.{Trie, versions_of}
+use Rattle.rdb_patricia.specs.Walks.{IsPart, IsKeyed, ListsBelow, GivesPart}
+use Rattle.rdb_patricia.proofs.GrownLemmas.{part_of, empty_tree, grown}
 
 module _ (head : ℕ) (said : Sayings) (image : Image) (root_ref : CellRef) (leads : LeadsTo image head root_ref) (listed : List CellRef) (nodes : List ℕ) (stands : IsPatricia head said image listed nodes) (how : How) (text : List ℕ) where
   abbrev meant : List CellRef → List CellRef

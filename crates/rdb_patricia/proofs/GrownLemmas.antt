@@ -1,5 +1,5 @@
 -- The tree below the head: whether there is one, and what hangs where a key leads.
-use Rattle.std.proofs.Common.{◌≡◌, ◌≢◌, ◌<◌, ◌≤◌, ◌⊎◌, ◌++◌, ℕ, List, [], ◌∷◌, length, slice_get, get_or, Option, Some, None, IsSome, Bool, true, false, inl, inr, refl, sym, ap, subst, ◌∙◌, arith, rules}
+use Rattle.std.proofs.Common.{◌≡◌, ◌≢◌, ◌≤◌, ℕ, List, [], ◌∷◌, length, slice_get, Option, Some, None, IsSome, Bool, true, false, inl, inr, refl, sym, ap, subst, ◌∙◌, arith}
 use Rattle.std.proofs.lemmas.List.Sorted.{IsPermutation-refl}
 use Rattle.std.specs.List.{Contains}
 use Rattle.std.specs.Prelude.{IsPermutation}
@@ -8,26 +8,24 @@ use Rattle.rdb_pages.specs.declared.cell.CellRef.{CellRef}
 use Rattle.rdb_cells.specs.declared.kind.Kind.TheVariants as kind
 use Rattle.rdb_cells.specs.Images.{Image, IsCell}
 use Rattle.rdb_cells.specs.Index.{TakesKeyOf}
-use Rattle.rdb_cells.specs.Keys.{Meaning, Sayings, Version, says}
-use Rattle.rdb_cells.specs.Links.{IsAmong, Placed, elements, start, Node, numbers, Stand}
-use Rattle.rdb_cells.specs.PatriciaFormat.{branch_in, patricia_entry_in}
+use Rattle.rdb_cells.specs.Keys.{Sayings, Version}
+use Rattle.rdb_cells.specs.Links.{Placed, elements, Node, Stand}
+use Rattle.rdb_cells.specs.PatriciaFormat.{patricia_entry_in}
 use Rattle.rdb_cells.specs.PlainList.{LeadsTo}
-use Rattle.rdb_cells.specs.Words.{HasKind, IsOfKind, no_ref}
-use Rattle.rdb_cells.specs.Work.{Work, reading}
-use Rattle.rdb_cells.proofs.ListedLemmas.{contains_first, contains_either, contains_later}
+use Rattle.rdb_cells.specs.Words.{IsOfKind}
+use Rattle.rdb_cells.proofs.ListedLemmas.{contains_first, contains_either}
 use Rattle.rdb_cells.proofs.PlainLemmas.{leads_one}
 use Rattle.rdb_patricia.specs.declared.walk.Spot.{Spot}
-use Rattle.rdb_patricia.specs.Bits.{bit_at, all_bits, AreAlikeBelow, IsFirstDifference, key_text, text_in, text_at, IsTextKey, HasTextKey, longest_key}
-use Rattle.rdb_patricia.specs.Changes.{HasParent, HasSides}
+use Rattle.rdb_patricia.specs.Bits.{bit_at, all_bits, IsFirstDifference, key_text, text_in, text_at, IsTextKey, HasTextKey, longest_key}
+use Rattle.rdb_patricia.specs.Changes.{HasParent}
 use Rattle.rdb_patricia.specs.Shape.{Texts, IsShaped, IsShapedTree, IsPatricia, patricia_nature}
-use Rattle.rdb_patricia.specs.Trie.{Held, Branch, Entry, Trie, Entries, Parted, IsWritten, root, root_of, trie_nodes, nodes_of, versions, versions_of}
+use Rattle.rdb_patricia.specs.Trie.{Held, Trie, Entries, Parted, IsWritten, root, root_of, trie_nodes, nodes_of, versions, versions_of}
 use Rattle.rdb_patricia.specs.Walks.{IsPart, Turn, plug, Follows, parent_of, side_of, IsReached, IsKeyed}
 use Rattle.rdb_patricia.proofs.EnterLemmas.{Joins}
-use Rattle.rdb_patricia.proofs.FinishLemmas.{Standing}
-use Rattle.rdb_patricia.proofs.HungLemmas.{IsHung, own_held, head_has}
+use Rattle.rdb_patricia.proofs.HungLemmas.{IsHung, own_held}
 use Rattle.rdb_patricia.proofs.ListingLemmas.{same_cell}
-use Rattle.rdb_patricia.proofs.NearLemmas.{Goes, IsNearest, nearest, entries_key}
-use Rattle.rdb_patricia.proofs.NodeLemmas.{frame, Hangs, hangs_part, hangs_none, own_node, own_number}
+use Rattle.rdb_patricia.proofs.NearLemmas.{IsNearest, nearest, entries_key}
+use Rattle.rdb_patricia.proofs.NodeLemmas.{Hangs, hangs_part, hangs_none, own_node, own_number}
 use Rattle.rdb_patricia.proofs.PartShape.{parted_shaped}
 use Rattle.rdb_patricia.proofs.PlugLemmas.{leaf_entries, leaf_part, leaf_there, part_within, part_shaped}
 use Rattle.rdb_patricia.proofs.ShapeLemmas.{Suits, FitsBelow, joins, suits_within, plug_shaped, plug_order}

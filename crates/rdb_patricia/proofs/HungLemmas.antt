@@ -8,7 +8,6 @@ use Rattle.rdb_cells.specs.declared.formats.patricia.PatriciaBranch.{PatriciaBra
 use Rattle.rdb_cells.specs.declared.kind.Kind.TheVariants as kind
 use Rattle.rdb_cells.specs.Images.{Image, Writes}
 use Rattle.rdb_cells.specs.Links.{IsAmong, Node, IsNeverZero, IsHeld, Stand, StandApart, numbers}
-use Rattle.rdb_cells.specs.PatriciaFormat.{branch_in}
 use Rattle.rdb_cells.specs.PlainList.{LeadsTo}
 use Rattle.rdb_cells.specs.References.{IsPageCell}
 use Rattle.rdb_cells.specs.Words.{HasKind}
@@ -16,9 +15,9 @@ use Rattle.rdb_cells.proofs.LinkLemmas.{node_of, numbers_append, stand_parts, ap
 use Rattle.rdb_cells.proofs.PlainLemmas.{one_kind}
 use Rattle.rdb_patricia.specs.declared.lead.Lead.{Lead}
 use Rattle.rdb_patricia.specs.declared.walk.Spot.{Spot}
-use Rattle.rdb_patricia.specs.Changes.{Leads, LeadsFromHead, LeadsFromBranch, IsTurned}
+use Rattle.rdb_patricia.specs.Changes.{Leads, IsTurned}
 use Rattle.rdb_patricia.specs.Shape.{IsTree}
-use Rattle.rdb_patricia.specs.Trie.{Held, Branch, Entry, Trie, IsWritten, root, root_of, nodes_of}
+use Rattle.rdb_patricia.specs.Trie.{Held, Branch, Entry, Trie, IsWritten, root}
 use Rattle.rdb_patricia.specs.Walks.{Turn, parent_of, side_of}
 use Rattle.rdb_patricia.proofs.EditLemmas.{apart_from_free}
 use Rattle.rdb_patricia.proofs.InsertLemmas.{inserted}

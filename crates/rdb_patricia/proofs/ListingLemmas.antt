@@ -1,5 +1,5 @@
 -- A listing of a tree: the part in hand, those that wait, and what was listed.
-use Rattle.std.proofs.Common.{◌≡◌, ◌≢◌, ◌<◌, ◌≤◌, ◌+◌, ◌++◌, zero, suc, ℕ, List, [], ◌∷◌, map, length, length-append, get_or, drop, Option, Some, None, IsSome, inl, inr, refl, sym, ap, ap₂, subst, ◌∙◌, arith, rules}
+use Rattle.std.proofs.Common.{◌≡◌, ◌≢◌, ◌<◌, ◌≤◌, ◌+◌, ◌++◌, suc, ℕ, List, [], ◌∷◌, map, length, length-append, get_or, drop, Option, Some, None, IsSome, inl, inr, refl, sym, ap, ap₂, subst, ◌∙◌, arith, rules}
 use Rattle.std.proofs.lemmas.List.{append_assoc, append-nil, length-map}
 use Rattle.std.specs.Option.{option_map_or}
 use Rattle.rdb_pages.specs.declared.cell.Cell.{Cell}
@@ -8,15 +8,15 @@ use Rattle.rdb_cells.specs.declared.formats.patricia.PatriciaBranch.{PatriciaBra
 use Rattle.rdb_cells.specs.declared.formats.patricia.PatriciaEntry.{PatriciaEntry}
 use Rattle.rdb_cells.specs.declared.kind.Kind.TheVariants as kind
 use Rattle.rdb_cells.specs.Images.{Image, IsCell}
-use Rattle.rdb_cells.specs.Links.{IsAmong, Node, IsHeld, Stand, numbers, Placed, elements, start}
+use Rattle.rdb_cells.specs.Links.{IsAmong, Node, Stand, numbers, Placed, elements, start}
 use Rattle.rdb_cells.specs.PatriciaFormat.{branch_in, patricia_entry_in}
 use Rattle.rdb_cells.specs.References.{last_page_cell}
 use Rattle.rdb_cells.specs.Words.{IsOfKind}
-use Rattle.rdb_cells.proofs.LinkLemmas.{few_below, stand_parts, stand_together}
+use Rattle.rdb_cells.proofs.LinkLemmas.{few_below}
 use Rattle.rdb_patricia.specs.declared.walk.Node.{Node as Read}
 use Rattle.rdb_patricia.specs.declared.walk.Node.TheVariants as read
-use Rattle.rdb_patricia.specs.Trie.{Held, Branch, Entry, Trie, Entries, Parted, IsWritten, IsBranchCell, root, root_of, entry_nodes, trie_nodes, nodes_of, versions, versions_of}
-use Rattle.rdb_patricia.specs.Walks.{IsPart, HasPart, ListsBelow, IsNext, Here, Later}
+use Rattle.rdb_patricia.specs.Trie.{Held, Trie, Entries, Parted, IsWritten, root, root_of, entry_nodes, trie_nodes, nodes_of, versions, versions_of}
+use Rattle.rdb_patricia.specs.Walks.{IsPart, ListsBelow, IsNext, Here, Later}
 
 -- what a cell holds is one thing
 pub same_cell : (image : Image) (n : ℕ) (c d : Cell) → image n ≡ Some c → image n ≡ Some d → c ≡ d

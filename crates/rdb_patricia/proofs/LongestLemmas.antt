@@ -1,6 +1,5 @@
 -- The longest key with which a text begins: the one to which the text leads, or the last that ends beside the way to it.
-use Rattle.std.proofs.Common.{◌≡◌, ◌≢◌, ◌<◌, ◌≤◌, ◌+◌, ◌*◌, ◌/◌, ◌%◌, ◌&&◌, ◌||◌, ◌==◌, ◌⊎◌, ◌++◌, ℕ, zero, suc, List, [], ◌∷◌, length, take, slice_get, eqb, nat_le, not, cond, Option, Some, None, Bool, true, false, inl, inr, refl, sym, ap, ap₂, subst, ◌∙◌, arith, rules, eq-eqb}
-use Rattle.std.proofs.Permutation.{which}
+use Rattle.std.proofs.Common.{◌≡◌, ◌≢◌, ◌<◌, ◌≤◌, ◌+◌, ◌*◌, ◌/◌, ◌%◌, ◌&&◌, ◌||◌, ◌==◌, ◌⊎◌, ◌++◌, ℕ, zero, suc, List, [], ◌∷◌, length, take, nat_le, not, cond, Option, Some, None, Bool, true, false, inl, inr, refl, sym, ap, ap₂, subst, ◌∙◌, arith, eq-eqb}
 use Rattle.std.proofs.lemmas.Bool.{false≢true, cases_lt, le-leb, leb-true, eqb-true}
 use Rattle.std.proofs.lemmas.List.{append-nil}
 use Rattle.std.proofs.lemmas.List.Elements.{filter-append}
@@ -9,19 +8,19 @@ use Rattle.std.specs.List.{Contains, filter, list_all}
 use Rattle.rdb_pages.specs.declared.cell.CellRef.{CellRef}
 use Rattle.rdb_cells.specs.Images.{Image}
 use Rattle.rdb_cells.specs.Keys.{Sayings}
-use Rattle.rdb_cells.specs.Links.{Placed, elements}
+use Rattle.rdb_cells.specs.Links.{elements}
 use Rattle.rdb_cells.proofs.ListedLemmas.{contains_first, contains_later}
 use Rattle.rdb_patricia.specs.declared.how.How.TheVariants.{Longest}
 use Rattle.rdb_patricia.specs.declared.walk.Leaf.{Leaf}
-use Rattle.rdb_patricia.specs.Bits.{bit_in, bit_at, all_bits, AreAlikeBelow, IsFirstDifference, text_at, HasTextKey}
+use Rattle.rdb_patricia.specs.Bits.{bit_in, bit_at, all_bits, AreAlikeBelow, IsFirstDifference, text_at}
 use Rattle.rdb_patricia.specs.Lookup.{begins_with, is_longest_of, matches}
 use Rattle.rdb_patricia.specs.Shape.{Texts, IsShaped, IsBelow}
-use Rattle.rdb_patricia.specs.Trie.{Trie, Entries, Parted, versions, versions_of, root}
-use Rattle.rdb_patricia.specs.Walks.{IsPart, Turn, plug, Follows, StopsAt, IsKeyed, IsLeaf, GivesPart, ends_beside, last_ended, HasEnded}
-use Rattle.rdb_patricia.proofs.ExactLemmas.{level, true_or_false, none_part, leaf_within, leaf_stands, leaf_key}
-use Rattle.rdb_patricia.proofs.NearLemmas.{Goes, IsNearest, Beside, beside_or_within, Leaves, leaves, nearest, within_part}
+use Rattle.rdb_patricia.specs.Trie.{Trie, Entries, versions, versions_of, root}
+use Rattle.rdb_patricia.specs.Walks.{IsPart, Turn, plug, Follows, IsKeyed, IsLeaf, GivesPart, ends_beside, last_ended, HasEnded}
+use Rattle.rdb_patricia.proofs.ExactLemmas.{true_or_false, none_part, leaf_within, leaf_stands, leaf_key}
+use Rattle.rdb_patricia.proofs.NearLemmas.{IsNearest, Beside, beside_or_within, leaves, nearest, within_part}
 use Rattle.rdb_patricia.proofs.PartingLemmas.{bit_there}
-use Rattle.rdb_patricia.proofs.PlugLemmas.{branched, turned_trie, part_shaped, part_stands, part_within, passes, side_passes, side_within, filter_none, filter_all, MissOthers, filtered, none_past, some_version, zeros_stand, ones_stand}
+use Rattle.rdb_patricia.proofs.PlugLemmas.{branched, turned_trie, part_shaped, part_stands, part_within, side_passes, side_within, filter_none, filter_all, MissOthers, filtered, none_past, some_version, zeros_stand, ones_stand}
 use Rattle.rdb_patricia.proofs.ShapeLemmas.{other_within, either_side, branch_alike, side_below}
 use Rattle.rdb_patricia.proofs.StartingLemmas.{AreBytes, begins_alike, alike_begins, alike_in, some_byte}
 

@@ -1,15 +1,15 @@
 -- The versions beside a way: where their keys leave it; and the one whose key goes along the farthest with the bits.
-use Rattle.std.proofs.Common.{◌≡◌, ◌≢◌, ◌<◌, ◌≤◌, ◌⊎◌, ◌++◌, ℕ, zero, suc, List, [], ◌∷◌, Bool, true, false, inl, inr, refl, sym, ap, subst, ◌∙◌, arith}
+use Rattle.std.proofs.Common.{◌≡◌, ◌≢◌, ◌<◌, ◌⊎◌, ℕ, List, [], ◌∷◌, Bool, inl, inr, sym, ap, ◌∙◌, arith}
 use Rattle.std.proofs.lemmas.Bool.{cases_lt}
 use Rattle.std.specs.List.{Contains}
 use Rattle.rdb_pages.specs.declared.cell.CellRef.{CellRef}
 use Rattle.rdb_cells.specs.Links.{Placed, elements}
 use Rattle.rdb_cells.proofs.ListedLemmas.{contains_first, contains_either}
 use Rattle.rdb_patricia.specs.Bits.{bit_at, AreAlikeBelow}
-use Rattle.rdb_patricia.specs.Shape.{Texts, IsShaped, HaveKeyOf}
-use Rattle.rdb_patricia.specs.Trie.{Trie, Entries, Parted, versions}
+use Rattle.rdb_patricia.specs.Shape.{Texts, IsShaped}
+use Rattle.rdb_patricia.specs.Trie.{Trie, Entries, versions}
 use Rattle.rdb_patricia.specs.Walks.{Turn, plug, Follows}
-use Rattle.rdb_patricia.proofs.PlugLemmas.{branched, turned_trie, part_shaped, side_within, side_passes}
+use Rattle.rdb_patricia.proofs.PlugLemmas.{turned_trie, part_shaped, side_within, side_passes}
 use Rattle.rdb_patricia.proofs.ShapeLemmas.{other_within, either_side, side_bit, branch_alike}
 
 -- below this number the text has these bits

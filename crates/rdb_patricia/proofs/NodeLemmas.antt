@@ -1,9 +1,9 @@
 -- The nodes of a tree around a part of it: those ahead of the part, the last of which leads to it, and those behind it.
-use Rattle.std.proofs.Common.{◌≡◌, ◌++◌, ◌⊎◌, ℕ, List, [], ◌∷◌, Option, Some, None, Bool, true, false, cond, inl, inr, refl, sym, ap, subst, ◌∙◌}
+use Rattle.std.proofs.Common.{◌≡◌, ◌++◌, ◌⊎◌, ℕ, List, [], ◌∷◌, Option, Some, None, Bool, true, false, inl, inr, refl, sym, ap, subst, ◌∙◌}
 use Rattle.std.proofs.lemmas.List.{append_assoc, append-nil}
 use Rattle.rdb_cells.specs.Links.{IsAmong, Node, numbers}
 use Rattle.rdb_cells.proofs.LinkLemmas.{numbers_append, same_numbers, among_either, among_front, among_back}
-use Rattle.rdb_patricia.specs.Trie.{Held, Branch, Trie, Entries, Parted, root, root_of, trie_nodes, nodes_of}
+use Rattle.rdb_patricia.specs.Trie.{Held, Branch, Trie, root, root_of, trie_nodes, nodes_of}
 use Rattle.rdb_patricia.specs.Walks.{Turn, plug}
 use Rattle.rdb_patricia.proofs.PlugLemmas.{branched, turned_trie}
 

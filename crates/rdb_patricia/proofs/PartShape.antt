@@ -1,19 +1,18 @@
 -- The shape of a tree with a new branch at the bit by which a new key parts from the nearest one.
-use Rattle.std.proofs.Common.{◌≡◌, ◌≢◌, ◌<◌, ◌≤◌, ◌⊎◌, ◌++◌, ℕ, zero, suc, List, [], ◌∷◌, Bool, true, false, not, cond, inl, inr, refl, sym, ap, subst, ◌∙◌, arith}
+use Rattle.std.proofs.Common.{◌≡◌, ◌≢◌, ◌⊎◌, ◌++◌, ℕ, suc, List, [], ◌∷◌, Bool, true, false, not, inl, inr, refl, sym, ap, subst, ◌∙◌, arith}
 use Rattle.std.proofs.Permutation.{which}
 use Rattle.std.proofs.lemmas.List.Sorted.{IsPermutation-refl, IsPermutation-sym, IsPermutation-middle}
 use Rattle.std.specs.List.{Contains}
 use Rattle.std.specs.Prelude.{IsPermutation}
 use Rattle.std.proofs.lemmas.List.{append-nil}
 use Rattle.rdb_pages.specs.declared.cell.CellRef.{CellRef}
-use Rattle.rdb_cells.specs.Links.{Placed, elements}
 use Rattle.rdb_cells.proofs.ListedLemmas.{contains_either}
 use Rattle.rdb_patricia.specs.Bits.{bit_at, AreAlikeBelow, IsFirstDifference}
 use Rattle.rdb_patricia.specs.PatriciaLaws.{contains_front, contains_back}
 use Rattle.rdb_patricia.specs.Shape.{Texts, IsShaped, IsBelow, HaveKeyOf}
 use Rattle.rdb_patricia.specs.Trie.{Trie, Entries, Parted, versions}
 use Rattle.rdb_patricia.specs.Walks.{Turn, plug, Follows, StopsAt}
-use Rattle.rdb_patricia.proofs.NearLemmas.{Goes, IsNearest, within_part}
+use Rattle.rdb_patricia.proofs.NearLemmas.{IsNearest, within_part}
 use Rattle.rdb_patricia.proofs.PlugLemmas.{branched, part_shaped, some_version}
 use Rattle.rdb_patricia.proofs.ShapeLemmas.{contains_sides, Suits, joins, suits_within, FitsBelow, plug_shaped, plug_order}
 use Rattle.rdb_patricia.proofs.StartingLemmas.{alike_in}

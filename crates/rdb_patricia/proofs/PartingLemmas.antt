@@ -1,9 +1,9 @@
 -- Two texts byte by byte: as far as they are alike, and where they part.
-use Rattle.std.proofs.Common.{◌≡◌, ◌≢◌, ◌<◌, ◌≤◌, ◌+◌, ◌*◌, ◌/◌, ◌%◌, ◌⊎◌, zero, suc, ℕ, List, [], ◌∷◌, length, slice_get, Option, Some, None, is_some, inl, inr, refl, sym, ap, ap₂, subst, ◌∙◌, arith, rules}
+use Rattle.std.proofs.Common.{◌≡◌, ◌≢◌, ◌<◌, ◌≤◌, ◌+◌, ◌*◌, ◌/◌, ◌%◌, zero, suc, ℕ, List, [], ◌∷◌, length, slice_get, Option, Some, None, is_some, inl, inr, refl, sym, ap, ap₂, subst, ◌∙◌, arith}
 use Rattle.std.proofs.lemmas.Bool.{false≢true, cases_lt}
 use Rattle.std.proofs.Permutation.{which}
 use Rattle.std.specs.Option.{option_map_or}
-use Rattle.rdb_patricia.specs.Bits.{bit_in, bit_at, AreAlikeBelow, IsFirstDifference, IsParting}
+use Rattle.rdb_patricia.specs.Bits.{bit_in, bit_at, IsFirstDifference, IsParting}
 
 -- the texts are the same below this place, and the first one goes on to there
 pub record AreAlong (a b : List ℕ) (place : ℕ) : Type 0 where

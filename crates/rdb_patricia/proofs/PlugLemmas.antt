@@ -1,5 +1,5 @@
 -- A trie in another one: its shape, its cells, its versions among the others, and the leaf to which bits lead.
-use Rattle.std.proofs.Common.{◌≡◌, ◌≢◌, ◌<◌, ◌≤◌, ◌+◌, ◌*◌, ◌/◌, ◌%◌, ◌++◌, zero, suc, ℕ, List, [], ◌∷◌, length, slice_get, Option, Some, None, IsSome, Bool, true, false, cond, inl, inr, refl, sym, ap, subst, ◌∙◌, zero-lt-suc, arith, rules}
+use Rattle.std.proofs.Common.{◌≡◌, ◌≢◌, ◌≤◌, ◌/◌, ◌%◌, ◌++◌, zero, suc, ℕ, List, [], ◌∷◌, length, slice_get, Option, Some, None, IsSome, Bool, true, false, cond, inr, refl, sym, ap, subst, ◌∙◌, arith, rules}
 use Rattle.std.proofs.lemmas.Bool.{false≢true}
 use Rattle.std.proofs.lemmas.List.{append-nil}
 use Rattle.std.proofs.lemmas.List.Elements.{filter-append}
@@ -10,10 +10,10 @@ use Rattle.rdb_cells.specs.Images.{Image, IsCell}
 use Rattle.rdb_cells.specs.Keys.{Sayings}
 use Rattle.rdb_cells.specs.Links.{IsAmong, AreOnce, numbers, Placed, elements}
 use Rattle.rdb_cells.proofs.LinkLemmas.{among_front, among_back, once_parts, numbers_append, stand_parts}
-use Rattle.rdb_cells.proofs.ListedLemmas.{contains_first, contains_later, contains_either}
+use Rattle.rdb_cells.proofs.ListedLemmas.{contains_first, contains_later}
 use Rattle.rdb_patricia.specs.Bits.{bit_in, bit_at, all_bits, text_at, HasTextKey}
 use Rattle.rdb_patricia.specs.PatriciaLaws.{contains_front, contains_back}
-use Rattle.rdb_patricia.specs.Shape.{Texts, IsShaped, PartsAt, HaveKeyOf}
+use Rattle.rdb_patricia.specs.Shape.{Texts, IsShaped}
 use Rattle.rdb_patricia.specs.Trie.{Trie, Entries, Parted, IsWritten, root, trie_nodes, versions}
 use Rattle.rdb_patricia.specs.Walks.{IsPart, Turn, plug, Follows, StopsAt, IsReached, IsKeyed, IsLeaf}
 use Rattle.rdb_patricia.proofs.ListingLemmas.{same_cell}

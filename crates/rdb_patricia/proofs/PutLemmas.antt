@@ -1,6 +1,5 @@
 -- A put of a version that isn't listed, in whatever tree stands.
-use Rattle.std.proofs.Common.{◌≡◌, ◌≢◌, ◌<◌, ◌≤◌, ◌^◌, ℕ, List, [], ◌∷◌, Option, Some, Bool, false, inl, inr, refl, sym, ap, subst, ◌∙◌, arith}
-use Rattle.std.specs.List.{Contains}
+use Rattle.std.proofs.Common.{◌≡◌, ◌≢◌, ◌<◌, ◌^◌, ℕ, List, Option, Some, Bool, false, inl, refl, sym, ap, subst, ◌∙◌, arith}
 use Rattle.rdb_pages.specs.declared.cell.Cell.{Cell}
 use Rattle.rdb_pages.specs.declared.cell.CellRef.{CellRef}
 use Rattle.rdb_cells.specs.declared.kind.Kind.TheVariants as kind
@@ -16,7 +15,7 @@ use Rattle.rdb_patricia.specs.Bits.{bit_at, all_bits, IsFirstDifference, text_at
 use Rattle.rdb_patricia.specs.Changes.{IsPut, Enters, Parts, HasParent}
 use Rattle.rdb_patricia.specs.Shape.{IsPatricia, patricia_nature}
 use Rattle.rdb_patricia.specs.Trie.{Trie, trie_nodes, root}
-use Rattle.rdb_patricia.specs.Walks.{HasTrie, WhateverTrie, plug, IsReached}
+use Rattle.rdb_patricia.specs.Walks.{HasTrie, WhateverTrie, IsReached}
 use Rattle.rdb_patricia.proofs.EnterLemmas.{is_entered}
 use Rattle.rdb_patricia.proofs.GrownLemmas.{taken_key, Grown, grown, first_joins, parent_there, near_there, near_end, near_listed, listed_joins, new_splits}
 use Rattle.rdb_patricia.proofs.HungLemmas.{tree_hung, head_has}

@@ -1,13 +1,13 @@
 -- A remove of a listed version: where its entry is, in whatever tree stands.
-use Rattle.std.proofs.Common.{◌≡◌, ◌≢◌, ◌<◌, ◌≤◌, ◌^◌, ◌⊎◌, ◌++◌, ℕ, suc, List, [], ◌∷◌, length, Option, Some, IsSome, Bool, not, inl, inr, refl, sym, ap, subst, ◌∙◌, arith, rules}
+use Rattle.std.proofs.Common.{◌≡◌, ◌≢◌, ◌<◌, ◌^◌, ◌⊎◌, ◌++◌, ℕ, List, [], ◌∷◌, Some, not, refl, sym, ap, subst, ◌∙◌, arith}
 use Rattle.std.proofs.lemmas.List.{append_assoc}
 use Rattle.std.specs.List.{Contains}
 use Rattle.rdb_pages.specs.declared.cell.Cell.{Cell}
 use Rattle.rdb_pages.specs.declared.cell.CellRef.{CellRef}
 use Rattle.rdb_cells.specs.declared.kind.Kind.TheVariants as kind
-use Rattle.rdb_cells.specs.Images.{Image, IsCell}
+use Rattle.rdb_cells.specs.Images.{Image}
 use Rattle.rdb_cells.specs.Keys.{Sayings}
-use Rattle.rdb_cells.specs.Links.{IsAmong, IsHeld, Node, Stand, Placed, elements, start, numbers}
+use Rattle.rdb_cells.specs.Links.{IsAmong, IsHeld, Stand, Placed, elements, start, numbers}
 use Rattle.rdb_cells.specs.PatriciaFormat.{branch_in}
 use Rattle.rdb_cells.specs.PlainList.{LeadsTo}
 use Rattle.rdb_cells.specs.References.{IsPageCell}
@@ -17,12 +17,12 @@ use Rattle.rdb_patricia.specs.declared.walk.Spot.{Spot}
 use Rattle.rdb_patricia.specs.Bits.{bit_at, all_bits, text_at}
 use Rattle.rdb_patricia.specs.Changes.{HasParent, HasSides, side_cell}
 use Rattle.rdb_patricia.specs.Shape.{IsShaped, IsPatricia}
-use Rattle.rdb_patricia.specs.Trie.{Held, Entry, Trie, Entries, IsWritten, entry_nodes, versions, root}
-use Rattle.rdb_patricia.specs.Walks.{IsPart, WhateverTrie, Turn, plug, parent_of, side_of, IsReached, HasEntry, WhateverEntries, IsAt, IsLast}
+use Rattle.rdb_patricia.specs.Trie.{Entry, Trie, Entries, IsWritten, entry_nodes, versions, root}
+use Rattle.rdb_patricia.specs.Walks.{IsPart, WhateverTrie, Turn, plug, parent_of, side_of, IsReached, HasEntry, WhateverEntries, IsAt}
 use Rattle.rdb_patricia.proofs.AloneLemmas.{IsAlone, top_node, top_kind, top_held, top_number, other_number, zero_there, one_there}
 use Rattle.rdb_patricia.proofs.BehindLemmas.{Sits, sits_hangs, chain_here}
 use Rattle.rdb_patricia.proofs.ChainLemmas.{one_chain, last_split, none_before}
-use Rattle.rdb_patricia.proofs.GrownLemmas.{Grown, grown, some_root, IsEnd, near_end, near_there, parent_there}
+use Rattle.rdb_patricia.proofs.GrownLemmas.{Grown, grown, some_root, IsEnd, near_end, parent_there}
 use Rattle.rdb_patricia.proofs.HungLemmas.{tree_hung}
 use Rattle.rdb_patricia.proofs.ListingLemmas.{same_cell}
 use Rattle.rdb_patricia.proofs.NearLemmas.{within_part}

@@ -1,17 +1,16 @@
 -- The shape of a tree as a part of it changes: the versions that come below the turns suit them.
-use Rattle.std.proofs.Common.{◌≡◌, ◌≢◌, ◌<◌, ◌≤◌, ◌⊎◌, ◌++◌, ℕ, zero, suc, List, [], ◌∷◌, Option, Some, Bool, true, false, cond, inl, inr, refl, sym, ap, subst, ◌∙◌, zero-lt-suc, suc-le-suc, arith}
+use Rattle.std.proofs.Common.{◌≡◌, ◌⊎◌, ◌++◌, ℕ, List, [], ◌∷◌, Bool, true, false, inl, inr, sym, subst, ◌∙◌, arith}
 use Rattle.std.proofs.lemmas.List.Sorted.{IsPermutation-refl, IsPermutation-sym, IsPermutation-append, IsPermutation-middle, IsPermutation-trans}
 use Rattle.std.specs.List.{Contains}
 use Rattle.std.specs.Prelude.{IsPermutation}
 use Rattle.rdb_pages.specs.declared.cell.CellRef.{CellRef}
-use Rattle.rdb_cells.specs.Links.{Placed, elements}
 use Rattle.rdb_cells.proofs.ListedLemmas.{contains_first, contains_later, contains_either}
 use Rattle.rdb_patricia.specs.Bits.{bit_at, AreAlikeBelow}
 use Rattle.rdb_patricia.specs.PatriciaLaws.{contains_front, contains_back}
-use Rattle.rdb_patricia.specs.Shape.{Texts, IsShaped, PartsAt, IsBelow}
-use Rattle.rdb_patricia.specs.Trie.{Trie, Entries, Parted, versions}
+use Rattle.rdb_patricia.specs.Shape.{Texts, IsShaped, IsBelow}
+use Rattle.rdb_patricia.specs.Trie.{Trie, versions}
 use Rattle.rdb_patricia.specs.Walks.{Turn, plug, Follows}
-use Rattle.rdb_patricia.proofs.PlugLemmas.{branched, turned_trie, part_shaped, side_within, side_passes, some_version}
+use Rattle.rdb_patricia.proofs.PlugLemmas.{branched, turned_trie, part_shaped, side_within, some_version}
 
 -- what both lists contain, one of them does
 pub contains_sides : (xs ys : List CellRef) (r : CellRef) → Contains (xs ++ ys) r → Contains xs r ⊎ Contains ys r

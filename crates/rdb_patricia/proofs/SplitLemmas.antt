@@ -1,5 +1,5 @@
 -- A put of a new key: a branch with its entry on one side, and on the other what hung there.
-use Rattle.std.proofs.Common.{◌≡◌, ◌≢◌, ◌<◌, ◌+◌, ◌⊎◌, ◌++◌, ℕ, List, [], ◌∷◌, length, Option, Some, Bool, true, false, cond, inl, inr, refl, sym, ap, subst, ◌∙◌, arith}
+use Rattle.std.proofs.Common.{◌≡◌, ◌≢◌, ◌⊎◌, ◌++◌, ℕ, List, [], ◌∷◌, Option, Some, Bool, true, false, inl, inr, refl, sym, ap, subst, ◌∙◌, arith}
 use Rattle.std.proofs.lemmas.List.{append-nil}
 use Rattle.std.specs.Prelude.{IsPermutation}
 use Rattle.rdb_pages.specs.declared.cell.Cell.{Cell}
@@ -9,7 +9,7 @@ use Rattle.rdb_cells.specs.declared.formats.patricia.PatriciaBranch.{PatriciaBra
 use Rattle.rdb_cells.specs.declared.kind.Kind.TheVariants as kind
 use Rattle.rdb_cells.specs.Images.{Image, Writes}
 use Rattle.rdb_cells.specs.Keys.{Meaning, Sayings, says, RestsOnVersions}
-use Rattle.rdb_cells.specs.Links.{IsAmong, Placed, Node, numbers}
+use Rattle.rdb_cells.specs.Links.{IsAmong, Node, numbers}
 use Rattle.rdb_cells.specs.Parts.{patricia_part}
 use Rattle.rdb_cells.specs.PatriciaFormat.{branch_in}
 use Rattle.rdb_cells.specs.References.{IsPageCell}
@@ -18,9 +18,9 @@ use Rattle.rdb_cells.specs.Work.{Work, reading, IsBlank, IsLeft, TakesAtMost, Ta
 use Rattle.rdb_cells.proofs.LinkLemmas.{numbers_append, among_either, among_front, among_back}
 use Rattle.rdb_cells.proofs.WorkLemmas.{put_reads, left_blank, take_one, taken_spent, lowest_take, lowest_then, at_most_then}
 use Rattle.rdb_patricia.specs.Bits.{text_at, HasTextKey}
-use Rattle.rdb_patricia.specs.Changes.{IsPut, Parts, IsEntryCell, putting, taking, turned, Leads}
-use Rattle.rdb_patricia.specs.Shape.{IsShaped, IsShapedTree, patricia_nature}
-use Rattle.rdb_patricia.specs.Trie.{Held, Branch, Entry, Trie, Entries, Parted, IsWritten, root, trie_nodes, nodes_of, versions_of, versions}
+use Rattle.rdb_patricia.specs.Changes.{IsPut, Parts, IsEntryCell, putting, taking, turned}
+use Rattle.rdb_patricia.specs.Shape.{IsShaped, patricia_nature}
+use Rattle.rdb_patricia.specs.Trie.{Held, Branch, Entry, Trie, Entries, IsWritten, root, trie_nodes, nodes_of, versions_of, versions}
 use Rattle.rdb_patricia.specs.Walks.{Turn, plug, parent_of, side_of}
 use Rattle.rdb_patricia.specs.declared.walk.Spot.{Spot}
 use Rattle.rdb_patricia.proofs.EditLemmas.{Edits, no_edits, edit_more, bare_entry, bare_branch, none_where_free, lead_bare, lead_none, lead_spent, lead_filled}

@@ -1,7 +1,7 @@
 -- The keys that begin with a text: one part of the tree, whose keys are all alike in the text's bits.
-use Rattle.std.proofs.Common.{◌≡◌, ◌≢◌, ◌<◌, ◌≤◌, ◌+◌, ◌*◌, ◌/◌, ◌%◌, ◌&&◌, ◌⊎◌, ℕ, zero, suc, List, [], ◌∷◌, length, take, get_or, is_some, slice_get, eqb, Option, Some, None, Bool, true, false, inl, inr, refl, sym, ap, ap₂, subst, ◌∙◌, arith, rules, eq-eqb}
+use Rattle.std.proofs.Common.{◌≡◌, ◌≢◌, ◌<◌, ◌≤◌, ◌+◌, ◌*◌, ◌/◌, ◌%◌, ◌&&◌, ◌⊎◌, ℕ, zero, suc, List, [], ◌∷◌, length, take, get_or, is_some, slice_get, Option, Some, None, Bool, true, false, inl, inr, refl, sym, ap, ap₂, subst, ◌∙◌, arith, eq-eqb}
 use Rattle.std.proofs.lemmas.Bool.{false≢true}
-use Rattle.std.specs.Cmp.Lexicographic.{pointwise, same_text}
+use Rattle.std.specs.Cmp.Lexicographic.{same_text}
 use Rattle.std.specs.List.{Contains, filter}
 use Rattle.std.specs.Option.{option_map_or}
 use Rattle.rdb_pages.specs.declared.cell.CellRef.{CellRef}
@@ -11,14 +11,14 @@ use Rattle.rdb_cells.specs.Links.{elements}
 use Rattle.rdb_cells.proofs.ListedLemmas.{contains_either}
 use Rattle.rdb_patricia.specs.declared.how.How.TheVariants.{Starting}
 use Rattle.rdb_patricia.specs.declared.walk.Spot.{Spot}
-use Rattle.rdb_patricia.specs.Bits.{bit_in, bit_at, AreAlikeBelow, IsFirstDifference, text_at, HasTextKey}
+use Rattle.rdb_patricia.specs.Bits.{bit_in, bit_at, AreAlikeBelow, text_at}
 use Rattle.rdb_patricia.specs.Lookup.{begins_with, matches}
 use Rattle.rdb_patricia.specs.Shape.{Texts, IsShaped}
 use Rattle.rdb_patricia.specs.Trie.{Trie, Entries, Parted, versions, root}
 use Rattle.rdb_patricia.specs.Walks.{IsPart, Turn, plug, Follows, StopsAt, IsReached, IsKeyed, GivesPart}
 use Rattle.rdb_patricia.proofs.BitLemmas.{same_bytes}
 use Rattle.rdb_patricia.proofs.PartingLemmas.{bit_there}
-use Rattle.rdb_patricia.proofs.ExactLemmas.{level, true_or_false, none_part}
+use Rattle.rdb_patricia.proofs.ExactLemmas.{true_or_false, none_part}
 use Rattle.rdb_patricia.proofs.PlugLemmas.{PassOthers, part_shaped, passes, part_within, part_stands, filter_none, filter_all, MissOthers, filtered, none_past}
 
 abbrev pub AreBytes : List ℕ → Type 0

@@ -1,6 +1,5 @@
 -- The way down a tree, turn by turn.
-use Rattle.std.proofs.Common.{◌≡◌, ◌≢◌, ◌<◌, ◌≤◌, ◌+◌, ◌%◌, ◌&&◌, ◌==◌, ◌++◌, zero, suc, ℕ, List, [], ◌∷◌, length, length-append, get_or, Option, Some, None, IsSome, Bool, true, false, cond, inl, inr, refl, sym, ap, ap₂, subst, ◌∙◌, arith, rules}
-use Rattle.std.specs.Option.{option_map_or}
+use Rattle.std.proofs.Common.{◌≡◌, ◌<◌, ◌≤◌, ◌+◌, ◌%◌, ◌&&◌, ◌==◌, ◌++◌, suc, ℕ, List, [], ◌∷◌, length, length-append, get_or, Option, Some, IsSome, Bool, true, false, cond, refl, sym, ap, ap₂, subst, ◌∙◌, arith, rules}
 use Rattle.rdb_pages.specs.declared.cell.Cell.{Cell}
 use Rattle.rdb_pages.specs.declared.cell.CellRef.{CellRef}
 use Rattle.rdb_cells.specs.declared.formats.patricia.PatriciaBranch.{PatriciaBranch}
@@ -16,7 +15,7 @@ use Rattle.rdb_patricia.specs.declared.walk.Node.{Node as Read}
 use Rattle.rdb_patricia.specs.declared.walk.Node.TheVariants as read
 use Rattle.rdb_patricia.specs.declared.walk.Spot.{Spot}
 use Rattle.rdb_patricia.specs.Trie.{Trie, Entries, Parted, IsWritten, root, trie_nodes}
-use Rattle.rdb_patricia.specs.Walks.{IsPart, HasTrie, WhateverTrie, Turn, plug, Follows, StopsAt, parent_of, side_of, IsReached, last_ended, HasEnded}
+use Rattle.rdb_patricia.specs.Walks.{IsPart, Turn, plug, Follows, StopsAt, parent_of, side_of, IsReached, last_ended, HasEnded}
 use Rattle.rdb_patricia.proofs.ListingLemmas.{IsRead, same_cell, no_entry, one_branch, few_nodes}
 
 cond_number : (e : Bool) (x y : CellRef) (n m : ℕ) → x.number ≡ n → y.number ≡ m → (cond e x y).number ≡ cond e n m

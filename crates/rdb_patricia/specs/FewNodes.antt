@@ -1,6 +1,6 @@
 -- A Patricia tree has at most two nodes for each version that it lists. No tactic stands here.
-use Rattle.std.specs.Prelude.{◌≡◌, ◌≤◌, ◌*◌, ◌+◌, ◌++◌, ℕ, zero, suc, List, [], ◌∷◌, length, Option, Some, None, refl}
-use mathlib.Core.Path.{sym, ap, ap₂, subst, ◌∙◌}
+use Rattle.std.specs.Prelude.{◌≡◌, ◌≤◌, ◌*◌, ◌+◌, ◌++◌, ℕ, suc, List, [], ◌∷◌, length, Option, Some, None}
+use mathlib.Core.Path.{sym, ap, subst, ◌∙◌}
 use native.Mathlib.Nat.{le_trans, le-suc, zero-add, suc-add, add-suc, two-mul, add-le-add, mul-add}
 use Prim.Native.Nat.{suc-le-suc, zero-le}
 use Rattle.rdb_pages.specs.declared.cell.CellRef.{CellRef}

@@ -1,5 +1,5 @@
 -- What a look-up by a text gives.
-use Rattle.std.specs.Prelude.{◌||◌, ◌&&◌, ℕ, List, Bool, true, false, not, length, nat_le, eqb, filter, IsPermutation}
+use Rattle.std.specs.Prelude.{◌||◌, ◌&&◌, ℕ, List, Bool, not, length, nat_le, eqb, filter, IsPermutation}
 use Rattle.std.specs.List.{list_all, starts_with}
 use Rattle.std.specs.Cmp.Lexicographic.{pointwise}
 use Rattle.rdb_pages.specs.declared.cell.CellRef.{CellRef}

@@ -1,7 +1,7 @@
 -- A Patricia index meets the laws of an index. No tactic stands here.
-use Rattle.std.specs.Prelude.{◌≡◌, ◌≤◌, ◌*◌, ◌+◌, ◌++◌, ℕ, zero, suc, List, [], ◌∷◌, length, slice_get, Option, Some, None, Contains, refl}
+use Rattle.std.specs.Prelude.{◌≡◌, ◌≤◌, ◌*◌, ◌++◌, ℕ, zero, suc, List, [], ◌∷◌, length, slice_get, Option, Some, None, Contains, refl}
 use mathlib.Core.Logic.{inl, inr}
-use mathlib.Core.Path.{sym, ap, ap₂, subst, ◌∙◌}
+use mathlib.Core.Path.{sym, ap, subst, ◌∙◌}
 use native.Mathlib.Nat.{le_of_suc-le-suc, not-suc-le-zero, zero-lt-suc}
 use Prim.Native.Nat.{suc-le-suc}
 use Rattle.rdb_pages.specs.declared.cell.CellRef.{CellRef}
@@ -9,14 +9,14 @@ use Rattle.rdb_cells.specs.declared.kind.Kind.TheVariants as kind
 use Rattle.rdb_cells.specs.HeadFormat.{index_head_cell, empty_index_head}
 use Rattle.rdb_cells.specs.Images.{Image}
 use Rattle.rdb_cells.specs.Index.{IsIndexNode, StartsEmpty, ListsOnce, HasIndexCells, HasFewNodes, RestsOnNodes}
-use Rattle.rdb_cells.specs.Keys.{Sayings, SaySame, Version, text_of}
-use Rattle.rdb_cells.specs.Links.{IsAmong, AreOnce, SameOn, Node, IsHeld, Placed, elements, numbers}
+use Rattle.rdb_cells.specs.Keys.{Sayings}
+use Rattle.rdb_cells.specs.Links.{IsAmong, AreOnce, SameOn, Node, IsHeld, numbers}
 use Rattle.rdb_cells.specs.LinkLaws.{still_apart, node_of}
 use Rattle.rdb_cells.specs.PlainLaws.{lists_again}
 use Rattle.rdb_cells.specs.Words.{no_ref}
-use Rattle.rdb_patricia.specs.Bits.{bit_at, AreAlikeBelow, text_at, text_in, HasTextKey, longest_key}
+use Rattle.rdb_patricia.specs.Bits.{bit_at, text_at, text_in, HasTextKey, longest_key}
 use Rattle.rdb_patricia.specs.FewNodes.{tree_few}
-use Rattle.rdb_patricia.specs.Shape.{Texts, IsShaped, IsShapedTree, PartsAt, HaveKeyOf, patricia_nature}
+use Rattle.rdb_patricia.specs.Shape.{Texts, IsShaped, IsShapedTree, patricia_nature}
 use Rattle.rdb_patricia.specs.Trie.{Held, Branch, Entry, Trie, Entries, Parted, IsWritten, nodes_of, versions, versions_of}
 
 none_in : {X : Type 0} (x : X) → ¬ Contains [] x

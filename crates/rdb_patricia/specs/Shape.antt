@@ -1,5 +1,5 @@
 -- The shape of a Patricia tree, and when one stands in cells.
-use Rattle.std.specs.Prelude.{◌≡◌, ◌<◌, ◌++◌, ℕ, List, Option, Some, None, Bool, true, false, Contains}
+use Rattle.std.specs.Prelude.{◌≡◌, ◌<◌, ◌++◌, ℕ, List, Option, Some, None, true, false, Contains}
 use Rattle.rdb_pages.specs.declared.cell.CellRef.{CellRef}
 use Rattle.rdb_cells.specs.Images.{Image}
 use Rattle.rdb_cells.specs.Index.{Nature}

@@ -1,4 +1,4 @@
-use Rattle.std.proofs.Common.{◌<◌, ℕ, arith}
+use Rattle.std.proofs.Common.{arith}
 use Rattle.rdb_patricia.proofs.BitLemmas.{same_bytes}
 use Rattle.rdb_patricia.proofs.bits.first_bit.Goals as goal
 

@@ -1,4 +1,4 @@
-use Rattle.std.proofs.Common.{◌≡◌, ◌≢◌, None, ℕ, List, rules, arith}
+use Rattle.std.proofs.Common.{◌≡◌, ◌≢◌, None, rules}
 use Rattle.rdb_cells.specs.Keys.{says}
 use Rattle.rdb_patricia.specs.Bits.{text_at}
 use Rattle.rdb_patricia.proofs.BitLemmas.{byte_is}

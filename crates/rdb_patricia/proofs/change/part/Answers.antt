@@ -1,4 +1,4 @@
-use Rattle.std.proofs.Common.{◌≡◌, ℕ, refl, sym, subst, arith}
+use Rattle.std.proofs.Common.{ℕ, refl, sym, subst, arith}
 use Rattle.rdb_cells.specs.Work.{Work, work, IsLeft}
 use Rattle.rdb_cells.proofs.IndexLemmas.{fewer_than}
 use Rattle.rdb_cells.proofs.WorkLemmas.{take_work, take_is, one_left, take_one}

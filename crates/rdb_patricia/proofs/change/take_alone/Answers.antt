@@ -1,16 +1,10 @@
-use Rattle.std.proofs.Common.{◌≡◌, not, refl, sym, ap, ◌∙◌, rules}
-use Rattle.rdb_pages.specs.declared.cell.Cell.{Cell}
+use Rattle.std.proofs.Common.{not, refl, ap, ◌∙◌}
 use Rattle.rdb_pages.specs.Pages.{zero_cell}
 use Rattle.rdb_cells.specs.PatriciaFormat.{branch_in}
 use Rattle.rdb_cells.specs.Work.{work, reading}
 use Rattle.rdb_cells.proofs.WorkLemmas.{put_work, put_is}
 use Rattle.rdb_patricia.specs.Changes.{side_cell}
 use Rattle.rdb_patricia.proofs.ListingLemmas.{same_cell}
-use Rattle.rdb_patricia.proofs.AloneLemmas.{gone_alone}
-use Rattle.rdb_patricia.proofs.BehindLemmas.{gone_behind}
-use Rattle.rdb_patricia.proofs.RemoveLemmas.{sits}
-use Rattle.rdb_patricia.proofs.FirstLemmas.{gone_first}
-use Rattle.rdb_patricia.proofs.GrownLemmas.{new_splits}
 use Rattle.rdb_patricia.proofs.change.take_alone.Goals as goal
 
 pub returns-clause-goes : goal.returns-clause-goes

@@ -1,5 +1,4 @@
-use Rattle.std.proofs.Common.{◌≡◌, ◌≢◌, inl, inr, refl, sym, ap, ◌∙◌, arith, rules}
-use Rattle.rdb_pages.specs.declared.cell.Cell.{Cell}
+use Rattle.std.proofs.Common.{◌≢◌, inr, refl, ap, ◌∙◌, rules}
 use Rattle.rdb_cells.specs.declared.formats.patricia.PatriciaBranch.{PatriciaBranch}
 use Rattle.rdb_cells.specs.PatriciaFormat.{branch_in}
 use Rattle.rdb_patricia.specs.Changes.{turned}

@@ -1,4 +1,4 @@
-use Rattle.std.proofs.Common.{◌<◌, ◌≤◌, ◌*◌, ℕ, List, length, get_or, ap, arith}
+use Rattle.std.proofs.Common.{ℕ, List, ap, arith}
 use Rattle.rdb_cells.specs.Keys.{says}
 use Rattle.rdb_patricia.specs.Bits.{bit_at, text_at}
 use Rattle.rdb_patricia.proofs.ExactLemmas.{leaf_within}

@@ -1,8 +1,8 @@
-use Rattle.std.proofs.Common.{◌≤◌, ◌<◌, rules, arith}
+use Rattle.std.proofs.Common.{◌<◌, arith}
 use Rattle.rdb_cells.specs.Keys.{says}
 use Rattle.rdb_patricia.specs.Bits.{bit_at, text_at}
 use Rattle.rdb_patricia.proofs.ListingLemmas.{IsRead}
-use Rattle.rdb_patricia.proofs.WayLemmas.{way_first, way_there, way_ends, way_stops, way_more, way_ends_somewhere}
+use Rattle.rdb_patricia.proofs.WayLemmas.{way_first, way_there, way_more, way_ends_somewhere}
 use Rattle.rdb_patricia.proofs.walk.down_by_key.Goals as goal
 
 pub loop-init : goal.loop-init

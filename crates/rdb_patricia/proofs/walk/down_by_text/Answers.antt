@@ -1,7 +1,7 @@
-use Rattle.std.proofs.Common.{◌≤◌, ◌<◌, rules, arith}
+use Rattle.std.proofs.Common.{◌<◌, arith}
 use Rattle.rdb_patricia.specs.Bits.{bit_at}
 use Rattle.rdb_patricia.proofs.ListingLemmas.{IsRead}
-use Rattle.rdb_patricia.proofs.WayLemmas.{way_first, way_there, way_ends, way_stops, way_more, way_ends_somewhere}
+use Rattle.rdb_patricia.proofs.WayLemmas.{way_first, way_there, way_more, way_ends_somewhere}
 use Rattle.rdb_patricia.proofs.walk.down_by_text.Goals as goal
 
 pub loop-init : goal.loop-init

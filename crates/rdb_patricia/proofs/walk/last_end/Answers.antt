@@ -1,7 +1,7 @@
-use Rattle.std.proofs.Common.{◌≡◌, ◌≤◌, ◌<◌, rules, arith}
+use Rattle.std.proofs.Common.{◌<◌, arith}
 use Rattle.rdb_patricia.specs.Bits.{bit_at}
 use Rattle.rdb_patricia.proofs.ListingLemmas.{IsRead}
-use Rattle.rdb_patricia.proofs.WayLemmas.{passing_first, passing_there, passing_never, passed_entry, passed_branch, passing_more}
+use Rattle.rdb_patricia.proofs.WayLemmas.{passing_first, passing_there, passing_never, passing_more}
 use Rattle.rdb_patricia.proofs.walk.last_end.Goals as goal
 
 pub loop-init : goal.loop-init

@@ -1,6 +1,5 @@
 use Rattle.std.proofs.Common.{arith}
-use Rattle.rdb_patricia.specs.Walks.{IsPart}
-use Rattle.rdb_patricia.proofs.ListingLemmas.{IsRead, listed_first, in_hand, all_listed, hand_there, entry_listed, branch_listed, listed_at_end}
+use Rattle.rdb_patricia.proofs.ListingLemmas.{IsRead, listed_first, in_hand, hand_there, entry_listed, branch_listed, listed_at_end}
 use Rattle.rdb_patricia.proofs.walk.list.Goals as goal
 use Rattle.rdb_patricia.proofs.walk.list.Goals.{in-Branch+in_ok-push-in-Branch, in-Entry+in_ok-push-in-Entry}
 

@@ -1,4 +1,4 @@
-use Rattle.std.proofs.Common.{◌≡◌, ◌≢◌, refl, sym, ap, ◌∙◌, rules}
+use Rattle.std.proofs.Common.{◌≢◌, rules}
 use Rattle.rdb_cells.specs.Keys.{says}
 use Rattle.rdb_patricia.proofs.FoundLemmas.{found_none, found_these}
 use Rattle.rdb_patricia.proofs.GrownLemmas.{grown}

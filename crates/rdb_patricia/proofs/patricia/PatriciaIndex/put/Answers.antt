@@ -1,4 +1,4 @@
-use Rattle.std.proofs.Common.{◌≡◌, ◌≢◌, None, refl, sym, ap, subst, ◌∙◌, arith, rules}
+use Rattle.std.proofs.Common.{◌≢◌, refl, ap, rules}
 use Rattle.rdb_cells.specs.Keys.{says}
 use Rattle.rdb_cells.specs.Work.{work, reading}
 use Rattle.rdb_patricia.specs.Bits.{text_at}

@@ -1,4 +1,3 @@
-use Rattle.std.proofs.Common.{◌≡◌, ◌≢◌, refl, sym, ap, ◌∙◌, rules}
 use Rattle.rdb_patricia.proofs.FoundLemmas.{all_found}
 use Rattle.rdb_patricia.proofs.GrownLemmas.{part_of}
 use Rattle.rdb_patricia.proofs.patricia.PatriciaIndex.refs.Goals as goal

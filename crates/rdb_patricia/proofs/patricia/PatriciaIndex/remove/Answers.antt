@@ -1,8 +1,7 @@
-use Rattle.std.proofs.Common.{◌≡◌, ◌≢◌, Option, Some, IsSome, refl, sym, ap, subst, ◌∙◌, arith, rules}
+use Rattle.std.proofs.Common.{◌≡◌, ◌≢◌, Option, IsSome, sym, subst, rules}
 use Rattle.rdb_pages.specs.declared.cell.Cell.{Cell}
 use Rattle.rdb_cells.specs.Keys.{says}
 use Rattle.rdb_cells.specs.Work.{work, reading}
-use Rattle.rdb_cells.proofs.PlainLemmas.{head_there}
 use Rattle.rdb_patricia.proofs.AloneLemmas.{gone_alone}
 use Rattle.rdb_patricia.proofs.BehindLemmas.{gone_behind}
 use Rattle.rdb_patricia.proofs.FirstLemmas.{gone_first}
