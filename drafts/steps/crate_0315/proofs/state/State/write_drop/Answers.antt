@@ -1,0 +1,38 @@
+use Rattle.std.proofs.Common.{◌≡◌, [], refl, sym, ap, ◌∙◌}
+use Rattle.rdb_registry.specs.declared.hand.Hand.{Hand}
+use Rattle.rdb_steps.proofs.StateWrites.{drop_goes_on, drop_ends, has_first, room_mid, writes_one}
+use Rattle.rdb_steps.proofs.state.State.write_drop.Goals as goal
+
+pub forget_first-requires : goal.forget_first-requires
+forget_first-requires g c =
+    let s = c.args.self.now in
+    room_mid s.schema s.transactions.manager s.counters.serials s.counters.ids.items s.memory c.write_next-is_last.new.cells s.transactions.registry c.write_next-is_last.new.registry
+    c.args.c c.write_next-is_last.result c.requires.whole.lawful c.requires.whole.classes c.sound.ensures c.write_next-is_last.ensures.written c.write_next-is_last.ensures.works c.requires.kept.0 c.requires.kept.1 c.requires.kept.2
+    (λ (h : Hand). h.own.items ≡ [] → ⊥) (has_first s.schema s.transactions.manager s.counters.serials s.counters.ids.items s.memory c.write_next-is_last.new.cells s.transactions.registry c.write_next-is_last.new.registry
+    c.args.c c.write_next-is_last.result c.requires.whole.lawful c.requires.whole.classes c.sound.ensures c.write_next-is_last.ensures.written c.write_next-is_last.ensures.works c.requires.kept.0 c.requires.kept.1 c.requires.kept.2 c.requires.dropping)
+
+pub returns-then-is_last-clause-kept : goal.returns-then-is_last-clause-kept
+returns-then-is_last-clause-kept g c =
+    let s = c.args.self.now in
+    λ settled aimed kept. drop_ends s.schema s.transactions.manager s.counters.serials s.counters.ids.items s.memory c.write_next-is_last.new.cells s.transactions.registry c.write_next-is_last.new.registry
+    c.args.c c.write_next-is_last.result c.requires.whole.lawful c.requires.whole.classes c.sound.ensures c.write_next-is_last.ensures.written c.write_next-is_last.ensures.works settled aimed kept
+    c.requires.dropping c.if-is_last.true c.forget_first.new.registry c.forget_first.ensures
+
+pub returns-then-is_last-clause-cell : goal.returns-then-is_last-clause-cell
+returns-then-is_last-clause-cell g c =
+    let s = c.args.self.now in
+    writes_one s.schema s.transactions.manager s.counters.serials s.counters.ids.items s.memory c.write_next-is_last.new.cells s.transactions.registry c.write_next-is_last.new.registry
+    c.args.c c.write_next-is_last.result c.requires.whole.lawful c.requires.whole.classes c.sound.ensures c.write_next-is_last.ensures.written c.write_next-is_last.ensures.works c.requires.kept.0 c.requires.kept.1 c.requires.kept.2 c.write_next-is_last.ensures.owners
+
+pub returns-else-is_last-clause-kept : goal.returns-else-is_last-clause-kept
+returns-else-is_last-clause-kept g c =
+    let s = c.args.self.now in
+    λ settled aimed kept. drop_goes_on s.schema s.transactions.manager s.counters.serials s.counters.ids.items s.memory c.write_next-is_last.new.cells s.transactions.registry c.write_next-is_last.new.registry
+    c.args.c c.write_next-is_last.result c.requires.whole.lawful c.requires.whole.classes c.sound.ensures c.write_next-is_last.ensures.written c.write_next-is_last.ensures.works settled aimed kept
+    c.requires.dropping c.if-is_last.false
+
+pub returns-else-is_last-clause-cell : goal.returns-else-is_last-clause-cell
+returns-else-is_last-clause-cell g c =
+    let s = c.args.self.now in
+    writes_one s.schema s.transactions.manager s.counters.serials s.counters.ids.items s.memory c.write_next-is_last.new.cells s.transactions.registry c.write_next-is_last.new.registry
+    c.args.c c.write_next-is_last.result c.requires.whole.lawful c.requires.whole.classes c.sound.ensures c.write_next-is_last.ensures.written c.write_next-is_last.ensures.works c.requires.kept.0 c.requires.kept.1 c.requires.kept.2 c.write_next-is_last.ensures.owners

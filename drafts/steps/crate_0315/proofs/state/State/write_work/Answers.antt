@@ -1,0 +1,66 @@
+use Rattle.std.proofs.Common.{◌≡◌, ◌<◌, [], Some, None, IsSome, refl, sym, ap, ◌∙◌}
+use Rattle.std.proofs.lemmas.Bool.{false≢true}
+use Rattle.rdb_registry.specs.declared.hand.Hand.{Hand}
+use Rattle.rdb_steps.specs.States.{cell_count}
+use Rattle.rdb_steps.proofs.StateWrites.{work_on, work_told, reply_on, reply_told, writes_one, held_mid, room_mid, furnished_here}
+use Rattle.rdb_steps.proofs.state.State.write_work.Goals as goal
+
+pub end_work-requires-clause-held : goal.end_work-requires-clause-held
+end_work-requires-clause-held g c =
+    let s = c.args.self.now in
+    held_mid s.schema s.transactions.manager s.counters.serials s.counters.ids.items s.memory c.write_next-is_last.new.cells s.transactions.registry c.write_next-is_last.new.registry
+    c.args.c c.write_next-is_last.result c.requires.whole.lawful c.requires.whole.classes c.sound.ensures c.write_next-is_last.ensures.written c.write_next-is_last.ensures.works c.requires.kept.0 c.requires.kept.1 c.requires.kept.2
+
+pub end_work-requires-clause-done : goal.end_work-requires-clause-done
+end_work-requires-clause-done g c =
+    let s = c.args.self.now in
+    room_mid s.schema s.transactions.manager s.counters.serials s.counters.ids.items s.memory c.write_next-is_last.new.cells s.transactions.registry c.write_next-is_last.new.registry
+    c.args.c c.write_next-is_last.result c.requires.whole.lawful c.requires.whole.classes c.sound.ensures c.write_next-is_last.ensures.written c.write_next-is_last.ensures.works c.requires.kept.0 c.requires.kept.1 c.requires.kept.2
+    (λ (h : Hand). IsSome h.work → 0 < h.done.room) (furnished_here s.schema s.transactions.manager s.counters.serials s.counters.ids.items s.memory c.write_next-is_last.new.cells s.transactions.registry c.write_next-is_last.new.registry
+    c.args.c c.write_next-is_last.result c.requires.whole.lawful c.requires.whole.classes c.sound.ensures c.write_next-is_last.ensures.written c.write_next-is_last.ensures.works c.requires.kept.0 c.requires.kept.1 c.requires.kept.2 (cell_count s.memory) c.requires.whole.furnished).done
+
+pub end_work-requires-clause-own : goal.end_work-requires-clause-own
+end_work-requires-clause-own g c =
+    let s = c.args.self.now in
+    room_mid s.schema s.transactions.manager s.counters.serials s.counters.ids.items s.memory c.write_next-is_last.new.cells s.transactions.registry c.write_next-is_last.new.registry
+    c.args.c c.write_next-is_last.result c.requires.whole.lawful c.requires.whole.classes c.sound.ensures c.write_next-is_last.ensures.written c.write_next-is_last.ensures.works c.requires.kept.0 c.requires.kept.1 c.requires.kept.2
+    (λ (h : Hand). IsSome h.work → 0 < h.own.room) (furnished_here s.schema s.transactions.manager s.counters.serials s.counters.ids.items s.memory c.write_next-is_last.new.cells s.transactions.registry c.write_next-is_last.new.registry
+    c.args.c c.write_next-is_last.result c.requires.whole.lawful c.requires.whole.classes c.sound.ensures c.write_next-is_last.ensures.written c.write_next-is_last.ensures.works c.requires.kept.0 c.requires.kept.1 c.requires.kept.2 (cell_count s.memory) c.requires.whole.furnished).own
+
+pub returns-then-is_last-clause-kept : goal.returns-then-is_last-clause-kept
+returns-then-is_last-clause-kept g c =
+    let s = c.args.self.now in
+    λ settled aimed kept. work_told s.schema s.transactions.manager s.counters.serials s.counters.ids.items s.memory c.write_next-is_last.new.cells s.transactions.registry c.write_next-is_last.new.registry
+    c.args.c c.write_next-is_last.result c.requires.whole.lawful c.requires.whole.classes c.sound.ensures c.write_next-is_last.ensures.written c.write_next-is_last.ensures.works settled aimed kept
+    c.requires.live c.requires.writing c.if-is_last.true c.end_work.new.registry c.end_work.result c.end_work.ensures.none c.end_work.ensures.same c.end_work.ensures.ends
+
+pub returns-then-is_last-clause-reply : goal.returns-then-is_last-clause-reply
+returns-then-is_last-clause-reply g c =
+    let s = c.args.self.now in
+    reply_told s.schema s.transactions.manager s.counters.serials s.counters.ids.items s.memory c.write_next-is_last.new.cells s.transactions.registry c.write_next-is_last.new.registry
+    c.args.c c.write_next-is_last.result c.requires.whole.lawful c.requires.whole.classes c.sound.ensures c.write_next-is_last.ensures.written c.write_next-is_last.ensures.works c.requires.kept.0 c.requires.kept.1 c.requires.kept.2 c.if-is_last.true c.end_work.new.registry c.end_work.result c.end_work.ensures.none c.end_work.ensures.ends
+
+pub returns-then-is_last-clause-cell : goal.returns-then-is_last-clause-cell
+returns-then-is_last-clause-cell g c =
+    let s = c.args.self.now in
+    writes_one s.schema s.transactions.manager s.counters.serials s.counters.ids.items s.memory c.write_next-is_last.new.cells s.transactions.registry c.write_next-is_last.new.registry
+    c.args.c c.write_next-is_last.result c.requires.whole.lawful c.requires.whole.classes c.sound.ensures c.write_next-is_last.ensures.written c.write_next-is_last.ensures.works c.requires.kept.0 c.requires.kept.1 c.requires.kept.2 c.write_next-is_last.ensures.owners
+
+pub returns-else-is_last-clause-kept : goal.returns-else-is_last-clause-kept
+returns-else-is_last-clause-kept g c =
+    let s = c.args.self.now in
+    λ settled aimed kept. work_on s.schema s.transactions.manager s.counters.serials s.counters.ids.items s.memory c.write_next-is_last.new.cells s.transactions.registry c.write_next-is_last.new.registry
+    c.args.c c.write_next-is_last.result c.requires.whole.lawful c.requires.whole.classes c.sound.ensures c.write_next-is_last.ensures.written c.write_next-is_last.ensures.works settled aimed kept
+    c.requires.live c.requires.writing (λ work had written. absurd (false≢true (sym c.if-is_last.false ∙ c.write_next-is_last.ensures.written.last ∙ written)))
+
+pub returns-else-is_last-clause-reply : goal.returns-else-is_last-clause-reply
+returns-else-is_last-clause-reply g c =
+    let s = c.args.self.now in
+    reply_on s.schema s.transactions.manager s.counters.serials s.counters.ids.items s.memory c.write_next-is_last.new.cells s.transactions.registry c.write_next-is_last.new.registry
+    c.args.c c.write_next-is_last.result c.requires.whole.lawful c.requires.whole.classes c.sound.ensures c.write_next-is_last.ensures.written c.write_next-is_last.ensures.works c.requires.kept.0 c.requires.kept.1 c.requires.kept.2 c.if-is_last.false
+
+pub returns-else-is_last-clause-cell : goal.returns-else-is_last-clause-cell
+returns-else-is_last-clause-cell g c =
+    let s = c.args.self.now in
+    writes_one s.schema s.transactions.manager s.counters.serials s.counters.ids.items s.memory c.write_next-is_last.new.cells s.transactions.registry c.write_next-is_last.new.registry
+    c.args.c c.write_next-is_last.result c.requires.whole.lawful c.requires.whole.classes c.sound.ensures c.write_next-is_last.ensures.written c.write_next-is_last.ensures.works c.requires.kept.0 c.requires.kept.1 c.requires.kept.2 c.write_next-is_last.ensures.owners

@@ -1,0 +1,9 @@
+pub mod Kept
+pub mod Phases
+pub mod Stamped
+pub mod Planned
+pub mod Lists
+pub mod Debt
+pub mod Invariant
+pub mod States
+pub mod Steps

@@ -1,0 +1,7 @@
+//! Scratch.
+ghost use Rattle.std.specs.Prelude.{◌≡◌, ℕ};
+
+/// Scratch.
+pub fn scratch_law()
+    ensures { (n : ℕ) → n ≡ n }
+{}
