@@ -1,0 +1,4 @@
+//! A World: one shared region on which many clients work a step at a time.
+#![tactic(auto)]
+
+mod reading;
