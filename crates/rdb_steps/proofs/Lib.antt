@@ -8,6 +8,12 @@ pub mod OwnLemmas
 pub mod PhaseLemmas
 pub mod DebtLemmas
 pub mod StoreLemmas
+pub mod OwnChains
+pub mod RestingLemmas
+pub mod MakingLemmas
+pub mod LeadingLemmas
+pub mod PlanningLemmas
+pub mod PlaceCounts
 pub mod MixLemmas
 pub mod KeptLemmas
 pub mod OwnVersions
@@ -22,6 +28,7 @@ pub mod AlikeLemmas
 pub mod WithoutLemmas
 pub mod MarkLemmas
 pub mod BeginLemmas
+pub mod DroppingLemmas
 pub mod WholeLemmas
 pub mod PageLemmas
 pub mod HandKept

@@ -22,6 +22,7 @@ use Rattle.rdb_writes.proofs.WorkLemmas.{in_its_slot}
 use Rattle.rdb_steps.specs.Kept.{IsLawful, HoldsClass, Agrees, AimsAt}
 use Rattle.rdb_steps.specs.Lists.{LaysPlan, AimsAtChain}
 use Rattle.rdb_steps.proofs.ListLemmas.{holds_same, class_is}
+use Rattle.rdb_steps.proofs.RestingLemmas.{stands_now}
 use Rattle.rdb_steps.proofs.StampLemmas.{set_here, set_elsewhere, set_length}
 
 module _ (schema : Schema) (manager : Manager) (before after : Ground) (c : ConnId) (seat : Seat) (hand : Hand) (class id : ℕ) (was chain : List Version) (lawful : IsLawful schema) (one : HaveOneHolder before.seats) (works : AreWorks before) (lays : LaysPlan schema manager before after c seat hand class id was chain) (here : class < length schema.classes) where
@@ -48,9 +49,7 @@ module _ (schema : Schema) (manager : Manager) (before after : Ground) (c : Conn
   -- before the step the connection aims at what stands
   aimed_stands : (settled aimed : Versions) → Agrees schema manager before settled aimed → (other : ℕ) → other < length schema.classes → HoldsLatch seat other → HoldsClass schema before before.image other (objects_in aimed other)
   aimed_stands settled aimed agrees other within held =
-      holds_same schema lawful before before (aimed_image before seat.hand) before.image other (objects_in aimed other) within (λ n. refl)
-      (λ n of. sym (ap (λ (ps : List Pair). planned ps before.image n) lays.had_none))
-      (agrees.aims c.slot seat at lays.aimed other within held)
+      stands_now schema manager before settled aimed c.slot seat lawful one agrees at lays.had_none lays.stands other within held
 
   -- the plan has no cell of another class
   unplanned : (other n : ℕ) → other ≢ class → before.class_of n ≡ Some other → names hand.plan.pairs n ≡ false

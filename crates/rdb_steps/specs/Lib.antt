@@ -5,7 +5,9 @@ pub mod Planned
 pub mod Lists
 pub mod Debt
 pub mod Invariant
+pub mod Making
 pub mod States
 pub mod Moves
 pub mod Steps
 pub mod Rooms
+pub mod LaidPlans

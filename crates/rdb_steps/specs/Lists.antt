@@ -1,5 +1,5 @@
 -- What a step leaves of the two lists of versions: the settled ones and those aimed at.
-use Rattle.std.specs.Prelude.{◌≡◌, ◌≢◌, ◌+◌, ◌==◌, ◌∷◌, ◌++◌, ℕ, List, [], false, true, Some, None, IsSome, if◌then◌else◌}
+use Rattle.std.specs.Prelude.{◌≡◌, ◌≢◌, ◌+◌, ◌==◌, ◌∷◌, ◌++◌, ◌⊎◌, ℕ, List, [], false, true, Some, None, IsSome, if◌then◌else◌}
 use Rattle.std.specs.Int.{bit_at}
 use Rattle.std.specs.Option.{option_map}
 use Rattle.rdb_base.specs.declared.identity.ConnId.{ConnId}
@@ -110,14 +110,15 @@ pub record IsPlanOf (g : Ground) (began ended : Work) (pairs : List Pair) : Type
   pub classes_after : (n : ℕ) → ended.class_of n ≡ g.class_of n
   pub read : SameImage (planned pairs g.image) (reading ended)
 
--- A connection without a plan, whose aims are spoken of, has one for a class whose latch it holds. It has cells of that class alone, and
--- leads from whatever the class's cells hold, where one object has this chain, to the same with another chain of that object.
+-- A connection without a plan, whose aims are spoken of or who has nothing to take back, has one for a class whose latch it holds. It has
+-- cells of that class alone, and leads from whatever the class's cells hold, where one object has this chain, to the same with another
+-- chain of that object.
 pub record LaysPlan (schema : Schema) (manager : Manager) (before after : Ground) (c : ConnId) (seat : Seat) (hand : Hand) (class id : ℕ)
     (was chain : List Version) : Type 0 where
   pub changes : ChangesHand before after c seat hand
   pub undo : hand.undo.pairs ≡ seat.hand.undo.pairs
   pub had_none : seat.hand.plan.pairs ≡ []
-  pub aimed : aims manager seat ≡ true
+  pub stands : (aims manager seat ≡ true) ⊎ (seat.hand.undo.pairs ≡ [])
   pub aims : aims manager (record seat { hand = hand }) ≡ true
   pub latch : HoldsLatch seat class
   pub only : (n : ℕ) → names hand.plan.pairs n ≡ true → before.class_of n ≡ Some class

@@ -9,7 +9,7 @@
 //! | a stamp           | –                      | `a_stamp_leaves_that_stamp`            | with that stamp              | with that stamp              |
 //! | a page            | `grant`                | `cells_that_come_leave_the_lists`      | stay                         | stay                         |
 //! | latches           | –                      | `latches_leave_the_settled`            | stay                         | stay, or no longer spoken of |
-//! | a plan            | –                      | `a_plan_aims_where_it_leads`           | stay                         | where the store's plan leads |
+//! | a plan            | –                      | `a_plan_aims_where_it_leads`, and those of `plan_laws` | stay         | where the store's plan leads |
 //! | a plan given up   | –                      | `a_plan_given_up_leaves_the_settled`   | stay                         | no longer spoken of          |
 //! | a mark            | –                      | `a_mark_settles_what_was_aimed_at`     | those aimed at               | stay                         |
 #![tactic(auto)]
@@ -18,6 +18,7 @@ mod finish;
 mod grant;
 mod laws;
 mod moves;
+mod plan_laws;
 mod rooms;
 mod state;
 mod take_back;
@@ -36,6 +37,10 @@ pub use moves::{
     a_connection_that_goes_keeps_all, a_mark_keeps_what_it_settles,
     a_roll_back_that_begins_keeps_the_settled, a_transaction_that_begins_keeps_all,
     a_transaction_that_ends_keeps_all, what_is_taken_over, what_is_told_keeps_all,
+};
+pub use plan_laws::{
+    a_garbage_drop_keeps_all, a_place_for_each_cell_is_enough, an_own_drop_keeps_all,
+    an_own_plan_keeps_all,
 };
 pub use rooms::{
     a_condemnation_keeps_rooms, a_connection_that_closes_keeps_rooms,
