@@ -40,3 +40,4 @@ pub mod StateWrites
 pub mod BackLemmas
 pub mod StateBacks
 pub mod RoomLemmas
+pub mod WrittenLemmas

@@ -3,6 +3,7 @@ use Rattle.std.proofs.lemmas.Bool.{false≢true}
 use Rattle.rdb_registry.specs.declared.hand.Hand.{Hand}
 use Rattle.rdb_steps.specs.States.{cell_count}
 use Rattle.rdb_steps.proofs.StateWrites.{only_on, only_told, work_on, work_told, reply_on, reply_told, writes_one, held_mid, room_mid, furnished_here}
+use Rattle.rdb_steps.proofs.WrittenLemmas.{work_becomes, work_goes_on}
 use Rattle.rdb_steps.proofs.state.State.write_work.Goals as goal
 
 pub end_work-requires-clause-held : goal.end_work-requires-clause-held
@@ -82,3 +83,21 @@ returns-else-is_last-clause-record g c =
           c.args.c c.write_next-is_last.result c.requires.whole.lawful c.requires.whole.classes c.sound.ensures c.write_next-is_last.ensures.written c.write_next-is_last.ensures.works c.requires.kept.0 c.requires.kept.1 c.requires.kept.2 c.write_next-is_last.ensures.roll;
       rest = refl;
     }
+
+pub returns-then-is_last-clause-becomes : goal.returns-then-is_last-clause-becomes
+returns-then-is_last-clause-becomes g c =
+    let s = c.args.self.now in
+    work_becomes s.transactions.manager s.memory c.write_next-is_last.new.cells s.transactions.registry c.write_next-is_last.new.registry
+    c.args.c c.write_next-is_last.result c.write_next-is_last.ensures.written c.end_work.new.registry c.end_work.result c.end_work.ensures.same c.end_work.ensures.ends
+
+pub returns-else-is_last-clause-becomes : goal.returns-else-is_last-clause-becomes
+returns-else-is_last-clause-becomes g c =
+    let s = c.args.self.now in
+    work_goes_on s.transactions.manager s.memory c.write_next-is_last.new.cells s.transactions.registry c.write_next-is_last.new.registry
+    c.args.c c.write_next-is_last.result c.write_next-is_last.ensures.written
+
+pub returns-then-is_last-clause-counts : goal.returns-then-is_last-clause-counts
+returns-then-is_last-clause-counts g c = record { counters = refl; journal = refl; claims = refl; spare = refl; manager = refl; schema = refl; store = refl }
+
+pub returns-else-is_last-clause-counts : goal.returns-else-is_last-clause-counts
+returns-else-is_last-clause-counts g c = record { counters = refl; journal = refl; claims = refl; spare = refl; manager = refl; schema = refl; store = refl }
