@@ -40,3 +40,5 @@ pub mod StateWrites
 pub mod BackLemmas
 pub mod StateBacks
 pub mod RoomLemmas
+pub mod FreeLemmas
+pub mod DoneChains
