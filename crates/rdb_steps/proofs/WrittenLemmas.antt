@@ -1,5 +1,5 @@
 -- The record of a connection once a cell of a plan is written, or a pair is taken back.
-use Rattle.std.proofs.Common.{◌≡◌, ◌&&◌, ◌==◌, ◌++◌, ◌∷◌, ◌+◌, ℕ, [], length, Bool, true, false, cond, Option, Some, None, IsSome, IsSomeAnd, IfSome, is_some, slice_get, drop, refl, sym, ap, subst, ◌∙◌, arith, inl, inr}
+use Rattle.std.proofs.Common.{◌≡◌, ◌&&◌, ◌==◌, ◌++◌, ◌∷◌, ◌+◌, ℕ, List, [], length, Bool, true, false, cond, Option, Some, None, IsSome, IsSomeAnd, IfSome, is_some, slice_get, drop, refl, sym, ap, subst, ◌∙◌, arith, inl, inr}
 use Rattle.std.proofs.lemmas.Bool.{false≢true, ne_eqb}
 use Rattle.rdb_base.specs.declared.identity.ConnId.{ConnId}
 use Rattle.rdb_base.specs.declared.identity.Manager.{Manager}
