@@ -41,3 +41,5 @@ pub mod BackLemmas
 pub mod StateBacks
 pub mod RoomLemmas
 pub mod WrittenLemmas
+pub mod FollowLemmas
+pub mod WholeSteps

@@ -43,6 +43,13 @@ same_room was now image n logs = elim (true_or_false (names was.pairs n)) [
   | inr unnamed ↦ ap (λ (r : Record). record r { pairs = [] }) (logs.first unnamed).1.1.1
 ]
 
+-- the rooms stay
+pub rooms_of_pair : (manager : Manager) (before after : RegionCells) (was now : Hand) → WritesPair manager before after was now → (now.plan.room ≡ was.plan.room) × (now.undo.room ≡ was.undo.room)
+rooms_of_pair manager before after was now pair = (sym (ap (λ (r : Record). r.room) pair.plan), elim (true_or_false (is_emptied manager was)) [
+  | inl is ↦ ap (λ (r : Record). r.room) (pair.emptied is)
+  | inr isnt ↦ ap (λ (r : Record). r.room) (same_room was.undo now.undo (image_of before) pair.next.at.number (pair.logged isnt))
+])
+
 emptied_plan : (b : Bool) (h : Hand) → (cond b (record h { undo = record h.undo { pairs = [] } }) h).plan ≡ h.plan
 emptied_plan true h = refl
 emptied_plan false h = refl
@@ -62,7 +69,7 @@ module _ (manager : Manager) (memory memory_now : RegionCells) (roll mid : Roll)
   as_ends : is_emptied manager w.seat.hand ≡ ends manager w.written
   as_ends = ap (λ (b : Bool). b && spans_one_plan manager) at_last
 
-  pair : WritesPair manager memory memory_now w.seat.hand (ended manager w.written)
+  pub pair : WritesPair manager memory memory_now w.seat.hand (ended manager w.written)
   pair = record {
     next = w.next;
     plan = w.planned.plan ∙ sym (ap (λ (p : Record). record p { pairs = p.pairs ++ w.next ∷ [] }) (emptied_plan (ends manager w.written) w.written));
@@ -77,14 +84,14 @@ module _ (manager : Manager) (memory memory_now : RegionCells) (roll mid : Roll)
     rest = w.works.rest;
   }
 
-  shorter : length (ended manager w.written).plan.pairs + 1 ≡ length w.seat.hand.plan.pairs
+  pub shorter : length (ended manager w.written).plan.pairs + 1 ≡ length w.seat.hand.plan.pairs
   shorter = less_one w.seat.hand.plan (ended manager w.written).plan w.next pair.plan
 
-  seat_mid : seat_of mid.seats c ≡ Some (record w.seat { hand = ended manager w.written })
-  seat_mid = ap (λ (seats : Seats). seat_of seats c) w.works.records ∙ record_after roll.seats c (λ (s : Seat). record s { hand = ended manager w.written }) w.seat (λ s. refl) w.works.held
+  pub seat_after : seat_of mid.seats c ≡ Some (record w.seat { hand = ended manager w.written })
+  seat_after = ap (λ (seats : Seats). seat_of seats c) w.works.records ∙ record_after roll.seats c (λ (s : Seat). record s { hand = ended manager w.written }) w.seat (λ s. refl) w.works.held
 
   seat_hand : (f : Hand) → seat_of (with_hand mid.seats c.slot f) c ≡ Some (record w.seat { hand = f })
-  seat_hand f = record_after mid.seats c (λ (s : Seat). record s { hand = f }) (record w.seat { hand = ended manager w.written }) (λ s. refl) seat_mid
+  seat_hand f = record_after mid.seats c (λ (s : Seat). record s { hand = f }) (record w.seat { hand = ended manager w.written }) (λ s. refl) seat_after
 
   seat_free : (f : Hand) → seat_of (changed (with_hand mid.seats c.slot f) c.slot (with_latches 0)) c ≡ Some (record w.seat { hand = f; latches = 0 })
   seat_free f = record_after (with_hand mid.seats c.slot f) c (with_latches 0) (record w.seat { hand = f }) (λ s. refl) (seat_hand f)
@@ -101,7 +108,7 @@ module _ (manager : Manager) (memory memory_now : RegionCells) (roll mid : Roll)
     now = record w.seat { hand = ended manager w.written };
     written = ended manager w.written;
     held = w.works.held;
-    there = seat_mid;
+    there = seat_after;
     pair = pair;
     becomes = λ none. refl;
     ends = λ some. absurd (false≢true some);
@@ -130,7 +137,7 @@ module _ (manager : Manager) (memory memory_now : RegionCells) (roll mid : Roll)
   }
     where
       is : e.seat ≡ record w.seat { hand = ended manager w.written }
-      is = same_seat mid.seats c e.seat (record w.seat { hand = ended manager w.written }) e.held seat_mid
+      is = same_seat mid.seats c e.seat (record w.seat { hand = ended manager w.written }) e.held seat_after
 
       done : Finishes (ended manager w.written) e.hand e.work e.version
       done = subst (λ (s : Seat). Finishes s.hand e.hand e.work e.version) is e.finishes
@@ -150,7 +157,7 @@ module _ (manager : Manager) (memory memory_now : RegionCells) (roll mid : Roll)
     now = record w.seat { hand = ended manager w.written };
     written = ended manager w.written;
     held = w.works.held;
-    there = seat_mid;
+    there = seat_after;
     pair = pair;
     becomes = λ goes. refl;
     ends = λ last. absurd (false≢true (sym on ∙ w.last ∙ sym at_last ∙ last));
@@ -177,7 +184,7 @@ module _ (manager : Manager) (memory memory_now : RegionCells) (roll mid : Roll)
   }
     where
       is : e.seat ≡ record w.seat { hand = ended manager w.written }
-      is = same_seat mid.seats c e.seat (record w.seat { hand = ended manager w.written }) e.held seat_mid
+      is = same_seat mid.seats c e.seat (record w.seat { hand = ended manager w.written }) e.held seat_after
 
       own_same : e.seat.hand.own.items ≡ w.seat.hand.own.items
       own_same = ap (λ (s : Seat). s.hand.own.items) is ∙ ap (λ (x : Hand). x.own.items) w.works.rest
@@ -186,8 +193,8 @@ module _ (manager : Manager) (memory memory_now : RegionCells) (roll mid : Roll)
       rest_mid = e.rest ∙ ap (λ (s : Seat). record s.hand { own = e.hand.own }) is
 
 module _ (memory memory_now : RegionCells) (roll mid : Roll) (c : ConnId) (b : TakesNewestBack (ground_in memory roll) (ground_in memory_now mid) c) where
-  back_seat : seat_of mid.seats c ≡ Some (record b.seat { hand = b.hand })
-  back_seat = ap (λ (seats : Seats). seat_of seats c) b.works.records ∙ record_after roll.seats c (λ (s : Seat). record s { hand = b.hand }) b.seat (λ s. refl) b.works.held
+  pub back_mid : seat_of mid.seats c ≡ Some (record b.seat { hand = b.hand })
+  back_mid = ap (λ (seats : Seats). seat_of seats c) b.works.records ∙ record_after roll.seats c (λ (s : Seat). record s { hand = b.hand }) b.seat (λ s. refl) b.works.held
 
   pub back_becomes : (h f : Hand) → IsSomeAnd (seat_of mid.seats c) (λ seat. h ≡ seat.hand) → f ≡ forgetting_own h →
       TakesPairBack memory memory_now roll.seats (with_hand mid.seats c.slot f) c
@@ -197,7 +204,7 @@ module _ (memory memory_now : RegionCells) (roll mid : Roll) (c : ConnId) (b : T
     newest = b.newest;
     held = b.works.held;
     there =
-        record_after mid.seats c (λ (s : Seat). record s { hand = f }) (record b.seat { hand = b.hand }) (λ s. refl) back_seat
+        record_after mid.seats c (λ (s : Seat). record s { hand = f }) (record b.seat { hand = b.hand }) (λ s. refl) back_mid
         ∙ ap (λ (x : Hand). Some (record b.seat { hand = x })) same;
     shorter = b.shorter;
     plan = b.plan;
@@ -207,4 +214,4 @@ module _ (memory memory_now : RegionCells) (roll mid : Roll) (c : ConnId) (b : T
   }
     where
       same : f ≡ forgetting_own b.hand
-      same = forgets ∙ ap forgetting_own (subst (λ (o : Option Seat). IsSomeAnd o (λ seat. h ≡ seat.hand)) back_seat lent)
+      same = forgets ∙ ap forgetting_own (subst (λ (o : Option Seat). IsSomeAnd o (λ seat. h ≡ seat.hand)) back_mid lent)

@@ -31,6 +31,7 @@ impl<P: Pages> State<P> {
         ensures record { OnlyRecord self.old self.new c }
         ensures becomes { TakenBack self.old self.new c }
         ensures counts { KeepsCounts self.old self.new }
+        ensures whole { IsWhole self.new }
     {
         self.transactions.registry.sound();
         take_newest_back(&mut self.memory, &mut self.transactions.registry, c);

@@ -36,6 +36,7 @@ impl<P: Pages> State<P> {
         ensures record { OnlyRecord self.old self.new c }
         ensures becomes { WrittenWork self.old self.new c result }
         ensures counts { KeepsCounts self.old self.new }
+        ensures whole { IsWhole self.new }
     {
         self.transactions.registry.sound();
         let is_last = write_next(
@@ -66,6 +67,7 @@ impl<P: Pages> State<P> {
         ensures record { OnlyRecord self.old self.new c }
         ensures becomes { WrittenDrop self.old self.new c }
         ensures counts { KeepsCounts self.old self.new }
+        ensures whole { IsWhole self.new }
     {
         self.transactions.registry.sound();
         let is_last = write_next(

@@ -2,6 +2,7 @@ use Rattle.std.proofs.Common.{refl, ◌≡◌, []}
 use Rattle.rdb_registry.specs.declared.hand.Hand.{Hand}
 use Rattle.rdb_steps.proofs.StateWrites.{only_on, only_forgot, drop_goes_on, drop_ends, has_first, room_mid, writes_one}
 use Rattle.rdb_steps.proofs.WrittenLemmas.{drop_becomes, drop_forgets}
+use Rattle.rdb_steps.proofs.WholeSteps.{whole_forgot, whole_on}
 use Rattle.rdb_steps.proofs.state.State.write_drop.Goals as goal
 
 pub forget_first-requires : goal.forget_first-requires
@@ -73,3 +74,15 @@ returns-then-is_last-clause-counts g c = record { counters = refl; journal = ref
 
 pub returns-else-is_last-clause-counts : goal.returns-else-is_last-clause-counts
 returns-else-is_last-clause-counts g c = record { counters = refl; journal = refl; claims = refl; spare = refl; manager = refl; schema = refl; store = refl }
+
+pub returns-then-is_last-clause-whole : goal.returns-then-is_last-clause-whole
+returns-then-is_last-clause-whole g c =
+    let s = c.args.self.now in
+    whole_forgot s c.write_next-is_last.new.cells c.write_next-is_last.new.registry c.args.c c.write_next-is_last.result c.requires.whole c.write_next-is_last.ensures.written
+    c.write_next-is_last.ensures.roll c.write_next-is_last.ensures.owners c.requires.dropping c.forget_first.new.registry c.forget_first.ensures
+
+pub returns-else-is_last-clause-whole : goal.returns-else-is_last-clause-whole
+returns-else-is_last-clause-whole g c =
+    let s = c.args.self.now in
+    whole_on s c.write_next-is_last.new.cells c.write_next-is_last.new.registry c.args.c c.write_next-is_last.result c.requires.whole c.write_next-is_last.ensures.written
+    c.write_next-is_last.ensures.roll c.write_next-is_last.ensures.owners
