@@ -42,3 +42,4 @@ pub mod StateBacks
 pub mod RoomLemmas
 pub mod FreeLemmas
 pub mod DoneChains
+pub mod StampKept

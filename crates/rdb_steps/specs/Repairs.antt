@@ -28,3 +28,21 @@ pub record Repairs (before after : Transactions) (c : ConnId) (seat : Seat) (cha
 -- the record without an operation in work, a plan, or a latch
 abbrev pub set_free : Seat → Seat
 set_free seat = record seat { latches = 0; hand = given_up seat.hand }
+
+-- under the manager of a single writer the own writes go with the last pair
+abbrev pub left_hand : Manager → Hand → Hand
+left_hand manager hand = if spans_one_plan manager then hand else forgetting_own hand
+
+-- with the last pair the latches go, too
+abbrev pub left : Manager → Seat → Seat
+left manager seat =
+    record seat { latches = if length seat.hand.undo.pairs == 0 then 0 else seat.latches; hand = left_hand manager seat.hand }
+
+-- The record without the newest pair of its undo record, without a plan and an operation in work; with the last pair its latches go, and
+-- under the manager of a single writer its own writes.
+abbrev pub repaired : Manager → Record → Seat → Seat
+repaired manager undo seat = left manager (record seat { hand = given_up (with_undo undo seat.hand) })
+
+-- the undo record is without its newest pair
+abbrev pub LosesNewest : Record → Record → Type 0
+LosesNewest before after = (newest : Pair) × (before ≡ record after { pairs = after.pairs ++ newest ∷ [] })
