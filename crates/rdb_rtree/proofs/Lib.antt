@@ -16,3 +16,6 @@ pub mod PutLemmas
 pub mod ShareLemmas
 pub mod OneTree
 pub mod MendLemmas
+pub mod LowerLemmas
+pub mod ShrinkLemmas
+pub mod RemoveLemmas

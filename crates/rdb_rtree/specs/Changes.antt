@@ -1,6 +1,6 @@
 -- What the changes of nodes, and of what stands below them, make of the work on a plan.
-use Rattle.std.specs.Prelude.{◌≡◌, ◌≤◌, ◌<◌, ◌+◌, ◌*◌, ◌^◌, ℕ, suc, List, [], ◌∷◌, ◌++◌, length, map, Some, IsPermutation}
-use Rattle.std.specs.List.{flat_map}
+use Rattle.std.specs.Prelude.{◌≡◌, ◌≢◌, ◌≤◌, ◌<◌, ◌+◌, ◌*◌, ◌^◌, ℕ, suc, List, [], ◌∷◌, ◌++◌, length, map, get_or, Some, IsPermutation}
+use Rattle.std.specs.List.{flat_map, remove}
 use Rattle.rdb_base.specs.declared.value.Rect.{Rect}
 use Rattle.rdb_pages.specs.declared.cell.Cell.{Cell}
 use Rattle.rdb_pages.specs.declared.cell.CellRef.{CellRef}
@@ -13,11 +13,11 @@ use Rattle.rdb_cells.specs.Links.{IsAmong, AreOnce}
 use Rattle.rdb_cells.specs.Records.{with_put, content}
 use Rattle.rdb_cells.specs.RtreeFormat.{IsRtreeNode, most_entries, rtree_node_cell}
 use Rattle.rdb_cells.specs.Untaken.{IsNextUntaken}
-use Rattle.rdb_cells.specs.Words.{HasKind}
+use Rattle.rdb_cells.specs.Words.{HasKind, no_ref}
 use Rattle.rdb_cells.specs.Work.{Work, reading, IsLeft, GoesOn, TakesAtMost, TakesLowest}
-use Rattle.rdb_rtree.specs.Boxes.{Each, IsLeastCover}
+use Rattle.rdb_rtree.specs.Boxes.{Each, Covers, IsLeastCover}
 use Rattle.rdb_rtree.specs.Standing.{AreSaid, IsKeyedAt, AreSound}
-use Rattle.rdb_rtree.specs.Trees.{Node, RTree, versions, cells, entry_of, HasProperBox, node_with, Stands, IsShaped, least_entries, Tree, root_of, versions_of, cells_of, TreeStands, IsRtree}
+use Rattle.rdb_rtree.specs.Trees.{Node, RTree, versions, cells, box, entry_of, HasProperBox, node_with, Stands, IsShaped, least_entries, Tree, root_of, versions_of, cells_of, TreeStands, IsRtree}
 use Rattle.rdb_rtree.specs.declared.entry.Entry.{Entry}
 
 -- the most entries of two nodes that are to share them
@@ -137,9 +137,29 @@ pub record HasShrunk (said : Sayings) (before after : Work) (version : CellRef) 
   pub no_more : length now ≤ length was
   pub account : IsAccount before after (cells_below h was) [] (2 * h)
 
--- A tree from below whose root node a version is to go, which has a box. A node above nodes has two at least.
-pub record IsShrinking (keys : Meaning) (said : Sayings) (image : Image) (at : CellRef) (level : ℕ) (lost : Entry) (h : ℕ) (t : Node (RTree h)) : Type 0 where
-  pub keyed : IsKeyedAt keys said image at level h t
+-- none of the versions is that of the cell
+abbrev pub AreOthers : CellRef → List CellRef → Type 0
+AreOthers at versions = Each (λ version. version.number ≢ at.number) versions
+
+-- none of the entries stands in the cell
+abbrev pub AreElsewhere : CellRef → List Entry → Type 0
+AreElsewhere at entries = Each (λ entry. entry.at.number ≢ at.number) entries
+
+-- the entries without the one that stands in the cell
+pub record IsWithout (was : List Entry) (at : CellRef) (now : List Entry) : Type 0 where
+  pub place : ℕ
+  pub lost : Entry
+  pub here : place < length was
+  pub lost_is : lost ≡ get_or was place lost
+  pub at_is : lost.at ≡ at
+  pub rest : now ≡ remove was place
+
+-- A tree from below whose root node a version is to go, which has a box. The node is known as the entry of the one above it. A node
+-- above nodes has two entries at least.
+pub record IsShrinking (keys : Meaning) (said : Sayings) (image : Image) (node : Entry) (level : ℕ) (lost : Entry) (h : ℕ) (t : Node (RTree h)) : Type 0 where
+  pub keyed : IsKeyedAt keys said image node.at level h t
+  pub cover_is : node.cover ≡ t.cover
+  pub covers : Covers t.cover (map (box said h) t.below)
   pub once : AreOnce (cells (suc h) t)
   pub two : 0 < h → 2 ≤ length t.below
   pub boxed : HasProperBox said lost.at
@@ -198,6 +218,35 @@ pub record IsMended (said : Sayings) (before after : Work) (at : CellRef) (h : �
   pub no_fewer : length beside ≤ length now
   pub one_more : length now ≤ length beside + 1
   pub account : IsAccount before after (at.number ∷ cells_below (suc h) beside) [] 2
+
+-- where the first of the entries stands
+abbrev pub first_place : List Entry → CellRef
+first_place [] = no_ref
+first_place (entry ∷ rest) = entry.at
+
+-- The trees that are left to a root whose cell is to be written or given back, and the head that leads to it.
+pub record IsToLower (said : Sayings) (w : Work) (head root : CellRef) (level h : ℕ) (ts : List (RTree h)) (entries : List Entry) : Type 0 where
+  pub level_is : level ≡ h
+  pub low : level < 2 ^ 16
+  pub entries_are : entries ≡ entries_above said h ts
+  pub sound : AreSound said (reading w) h ts
+  pub held : HasKind (reading w) kind.RtreeNode root.number
+  pub leads : reading w head.number ≡ Some (index_head_cell (rooted_head root))
+  pub apart : ¬ IsAmong (cells_below h ts) root.number
+  pub one : 0 < h → 1 ≤ length ts
+  pub fit : length ts ≤ most_entries
+
+-- The head leads to a tree of what was left to the root: below the root still, or below the only node that was left; or there is none.
+pub record IsLowered (said : Sayings) (before after : Work) (head root : CellRef) (h : ℕ) (ts : List (RTree h)) : Type 0 where
+  pub gone : List ℕ
+  pub now : Tree
+  pub leads : reading after head.number ≡ Some (index_head_cell (rooted_head (root_of now)))
+  pub stands : TreeStands (reading after) now
+  pub shape : IsRtree said now
+  pub list : IsPermutation (versions_below h ts) (versions_of now)
+  pub places : IsPermutation (gone ++ cells_of now) (root.number ∷ cells_below h ts)
+  pub zero : AreGone (reading after) gone
+  pub account : IsAccount before after (head.number ∷ root.number ∷ []) [] 2
 
 -- a new root node above these entries stands in the lowest cell, and the head leads to it
 pub record IsPlanted (before after : Work) (head : CellRef) (level : ℕ) (entries : List Entry) : Type 0 where

@@ -1,20 +1,23 @@
 //! A version taken out of the tree: out of the leaf that has it, among the nodes whose box covers the version's; and a node that
 //! is left with too few entries takes in those of a sibling, or shares with it where they are too many for one node. It writes
 //! nodes and the head.
-ghost use Rattle.std.specs.Prelude.{◌≡◌, ◌≤◌, ◌<◌, ◌+◌, ◌++◌, ◌*◌, ℕ, suc, List, length, Contains, Some, IfSome, IfNone};
+ghost use Rattle.std.specs.Prelude.{◌≡◌, ◌==◌, ◌≤◌, ◌<◌, ◌+◌, ◌++◌, ◌*◌, ℕ, suc, List, length, Contains, Some, IfSome, IfNone, position};
+ghost use Rattle.rdb_pages.specs.Pages.{zero_cell};
+ghost use Rattle.rdb_cells.specs.HeadFormat.{index_head_cell, rooted_head};
 ghost use Rattle.rdb_cells.specs.Images.{IsCell};
 ghost use Rattle.rdb_cells.specs.Keys.{Sayings, says};
 ghost use Rattle.rdb_cells.specs.Work.{work, reading};
-ghost use Rattle.rdb_rtree.specs.Changes.{most_shared, HasPlaces, versions_below, IsShrinking, HasShrunk, IsToMend, IsMended, IsToShare, AreShared, IsTreeRemoved};
+ghost use Rattle.rdb_rtree.specs.Changes.{most_shared, HasPlaces, versions_below, with_cell, AreOthers, AreElsewhere, IsWithout, IsShrinking, HasShrunk};
+ghost use Rattle.rdb_rtree.specs.Changes.{IsToMend, IsMended, IsToShare, AreShared, first_place, IsToLower, IsLowered, IsTreeRemoved};
 ghost use Rattle.rdb_rtree.specs.Nature.{IsRtreeIndex};
-ghost use Rattle.rdb_rtree.specs.Trees.{Node as NodeOf, RTree};
+ghost use Rattle.rdb_rtree.specs.Trees.{Node as NodeOf, RTree, root_entries};
 
 use crate::boxes::{cover_of, least_grown, lies_in};
 use crate::entry::{Entries, Entry, LEAST_ENTRIES};
 use crate::node::{entries_at, node_at, put_cell, put_node};
 use crate::rtree::Rtree;
 use crate::split::split;
-use rdb_cells::{Cells, IndexHead, Keys, Overlay, RTREE_ENTRIES};
+use rdb_cells::{Cells, IndexHead, Keys, NONE, Overlay, RTREE_ENTRIES};
 use rdb_pages::{Cell, CellRef};
 
 /// Takes the version, which is listed, out of the tree.
@@ -36,16 +39,50 @@ pub(crate) fn remove<C: Cells, K: Keys>(
         (work C.Cells cells.new) version tree.now.head.number is.tree }
     ensures below { (cells.new.cells ≡ cells.old.cells) × (cells.new.class ≡ cells.old.class) }
 {
-    let entry = Entry {
+    let lost = Entry {
         at: version,
         cover: keys.rect(&*cells, version),
     };
     let root = IndexHead::root_in(cells.planned(tree.head), 0);
-    let level = node_at(&*cells, root).level;
-    match without_entry(cells, keys, root, level, entry) {
-        Some(entries) => lower_root(cells, tree.head, root, level, entries),
+    let node = node_at(&*cells, root);
+    let top = Entry {
+        at: root,
+        cover: node.cover,
+    };
+    match without_entry(cells, keys, top, node.level, lost) {
+        Some(entries) => lower_root(cells, tree.head, root, node.level, entries),
         None => unreachable!(),
     }
+}
+
+/// Returns how many entries a root of a level has at least: one in a leaf, and two above.
+fn least_of_root(level: u32) -> usize
+    ensures { result ≡ root_entries level }
+{
+    if level == 0 { 1 } else { 2 }
+}
+
+/// Returns where the first of some entries stands, or no cell where there is none.
+fn first_place(entries: &[Entry]) -> CellRef
+    ensures { result ≡ first_place entries.now }
+{
+    match entries {
+        [first, _rest @ ..] => first.at,
+        [] => NONE,
+    }
+}
+
+/// Gives the root's cell back, and lets the head lead to another root, or to none.
+fn lead_to<C: Cells>(cells: &mut Overlay<C>, head: CellRef, root: CellRef, top: CellRef)
+    requires root { IsCell (reading (work C.Cells cells.old)) root.number }
+    requires head { IsCell (reading (work C.Cells cells.old)) head.number }
+    requires places { HasPlaces (work C.Cells cells.old) 2 }
+    ensures work { work C.Cells cells.new ≡
+        with_cell (with_cell (work C.Cells cells.old) root zero_cell) head (index_head_cell (rooted_head top)) }
+    ensures below { (cells.new.cells ≡ cells.old.cells) × (cells.new.class ≡ cells.old.class) }
+{
+    put_cell(cells, root, Cell::ZERO);
+    put_cell(cells, head, IndexHead::rooted(top).to_cell());
 }
 
 /// Writes the root with the entries that are left to it. A leaf without an entry goes, and so does a root above one node, to
@@ -56,61 +93,76 @@ fn lower_root<C: Cells>(
     root: CellRef,
     level: u32,
     entries: Entries,
-) {
-    match entries.as_slice() {
-        [] => {
-            put_cell(cells, root, Cell::ZERO);
-            put_cell(cells, head, IndexHead::empty().to_cell());
-        }
-        [only] if level > 0 => {
-            put_cell(cells, root, Cell::ZERO);
-            put_cell(cells, head, IndexHead::rooted(only.at).to_cell());
-        }
-        more => {
-            let _root = put_node(cells, root, level, more);
-        }
+)
+    requires lowers { (said : Sayings) × (h : ℕ) × (ts : List (RTree h))
+        × IsToLower said (work C.Cells cells.old) head root level h ts entries.items }
+    requires places { HasPlaces (work C.Cells cells.old) 2 }
+    ensures lowered { (said : Sayings) (h : ℕ) (ts : List (RTree h)) →
+        IsToLower said (work C.Cells cells.old) head root level h ts entries.items →
+        IsLowered said (work C.Cells cells.old) (work C.Cells cells.new) head root h ts }
+    ensures below { (cells.new.cells ≡ cells.old.cells) × (cells.new.class ≡ cells.old.class) }
+{
+    let left = entries.as_slice();
+    if left.len() >= least_of_root(level) {
+        let _root = put_node(cells, root, level, left);
+        return;
     }
+    lead_to(cells, head, root, first_place(left));
 }
 
 /// Returns the place of an entry that stands in a cell, if there is one.
-fn place_of(entries: &[Entry], at: CellRef) -> Option<usize> {
-    entries.iter().position(|entry| entry.at == at)
+fn place_of(entries: &[Entry], at: CellRef) -> Option<usize>
+    ensures { result ≡ position (λ entry. entry.at.number == at.number) entries.now }
+{
+    entries
+        .iter()
+        .position(|entry| entry.at.number == at.number)
+}
+
+/// Returns the entries without the one that stands in a cell; or `None` where there is no such one.
+fn without(entries: Entries, at: CellRef) -> Option<Entries>
+    ensures found { IfSome result (λ left. IsWithout entries.items at left.items) }
+    ensures none { IfNone result (AreElsewhere at entries.items) }
+{
+    let mut left = entries;
+    let place = place_of(left.as_slice(), at)?;
+    let _lost = left.remove(place);
+    Some(left)
 }
 
 /// Takes the version out from below a node, and returns the entries that the node is to have, which may be one too few; or
-/// `None` where it isn't there. The cost grows with the number of nodes whose box covers the version's.
+/// `None` where it isn't there, which a node whose box doesn't cover the version's shows at once. The cost grows with the number of nodes whose box covers the version's.
 fn without_entry<C: Cells, K: Keys>(
     cells: &mut Overlay<C>,
     keys: &K,
-    at: CellRef,
+    node: Entry,
     level: u32,
     lost: Entry,
 ) -> Option<Entries>
     requires tree { (said : Sayings) × (h : ℕ) × (t : NodeOf (RTree h))
-        × IsShrinking (K.meaning keys.now) said (reading (work C.Cells cells.old)) at level lost h t }
+        × IsShrinking (K.meaning keys.now) said (reading (work C.Cells cells.old)) node level lost h t }
     requires places { HasPlaces (work C.Cells cells.old) (2 * level) }
     ensures found { IfSome result (λ entries. (said : Sayings) (h : ℕ) (t : NodeOf (RTree h)) →
-        IsShrinking (K.meaning keys.now) said (reading (work C.Cells cells.old)) at level lost h t →
+        IsShrinking (K.meaning keys.now) said (reading (work C.Cells cells.old)) node level lost h t →
         HasShrunk said (work C.Cells cells.old) (work C.Cells cells.new) lost.at h t.below entries.items) }
     ensures none { IfNone result ((said : Sayings) (h : ℕ) (t : NodeOf (RTree h)) →
-        IsShrinking (K.meaning keys.now) said (reading (work C.Cells cells.old)) at level lost h t →
-        (¬ Contains (versions_below h t.below) lost.at) × (work C.Cells cells.new ≡ work C.Cells cells.old)) }
+        IsShrinking (K.meaning keys.now) said (reading (work C.Cells cells.old)) node level lost h t →
+        AreOthers lost.at (versions_below h t.below) × (work C.Cells cells.new ≡ work C.Cells cells.old)) }
     ensures below { (cells.new.cells ≡ cells.old.cells) × (cells.new.class ≡ cells.old.class) }
 {
-    let mut entries = entries_at(&*cells, keys, at, level);
+    if !lies_in(&lost.cover, &node.cover) {
+        return None;
+    }
+    let mut entries = entries_at(&*cells, keys, node.at, level);
     if level == 0 {
-        let place = place_of(entries.as_slice(), lost.at)?;
-        let _lost = entries.remove(place);
-        return Some(entries);
+        return without(entries, lost.at);
     }
     for place in 0..entries.len() {
         let child = entries.as_slice()[place];
-        if lies_in(&lost.cover, &child.cover) {
-            if let Some(left) = without_entry(cells, keys, child.at, level - 1, lost) {
-                let _child = entries.remove(place);
-                mend(cells, keys, child.at, level - 1, left, &mut entries);
-                return Some(entries);
-            }
+        if let Some(left) = without_entry(cells, keys, child, level - 1, lost) {
+            let _child = entries.remove(place);
+            mend(cells, keys, child.at, level - 1, left, &mut entries);
+            return Some(entries);
         }
     }
     None
