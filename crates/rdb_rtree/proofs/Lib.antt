@@ -18,4 +18,5 @@ pub mod OneTree
 pub mod MendLemmas
 pub mod LowerLemmas
 pub mod ShrinkLemmas
+pub mod SearchLemmas
 pub mod RemoveLemmas

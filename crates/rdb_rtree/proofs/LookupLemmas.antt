@@ -102,7 +102,7 @@ both_true true true e = (refl, refl)
 both_true true false e = absurd (false≢true e)
 both_true false b e = absurd (false≢true e)
 
-true_both : (a b : Bool) → a ≡ true → b ≡ true → (a && b) ≡ true
+pub true_both : (a b : Bool) → a ≡ true → b ≡ true → (a && b) ≡ true
 true_both true true first second = refl
 true_both true false first second = absurd (false≢true second)
 true_both false b first second = absurd (false≢true first)
@@ -114,7 +114,7 @@ true_when : (b : Bool) → T b → b ≡ true
 true_when true t = refl
 true_when false t = absurd t
 
-true_le : (a b : ℤ) → a ≤ℤ b → int_le a b ≡ true
+pub true_le : (a b : ℤ) → a ≤ℤ b → int_le a b ≡ true
 true_le a b low = true_when (int_le a b) low.le
 
 -- what meets the rectangle overlaps it in whatever covers it
@@ -166,7 +166,7 @@ module _ (said : Sayings) where
   own_box : (r : CellRef) (boxed : HasProperBox said r) → box said 0 r ≡ boxed.own
   own_box r boxed = ap (λ (o : Option Rect). unwrap_or o no_box) boxed.is
 
-  all_lie : (h : ℕ) → ((t : RTree h) → IsShaped said h least_entries t → Each (HasBoxIn said (box said h t)) (versions h t)) → (ts : List (RTree h)) (cover : Rect) → Each (IsShaped said h least_entries) ts → Covers cover (map (box said h) ts) → Each (HasBoxIn said cover) (flat_map (versions h) ts)
+  pub all_lie : (h : ℕ) → ((t : RTree h) → IsShaped said h least_entries t → Each (HasBoxIn said (box said h t)) (versions h t)) → (ts : List (RTree h)) (cover : Rect) → Each (IsShaped said h least_entries) ts → Covers cover (map (box said h) ts) → Each (HasBoxIn said cover) (flat_map (versions h) ts)
   all_lie h one [] cover shaped covers = tt
   all_lie h one (t ∷ ts) cover shaped covers =
       each_both (HasBoxIn said cover) (versions h t) (flat_map (versions h) ts)
