@@ -40,7 +40,7 @@ less_one was now p e =
 same_room : (was now : Record) (image : Image) (n : ℕ) → Logs was now image n → ◌≡◌ {A = Record} (record now { pairs = [] }) (record was { pairs = [] })
 same_room was now image n logs = elim (true_or_false (names was.pairs n)) [
   | inl named ↦ ap (λ (r : Record). record r { pairs = [] }) (logs.again named)
-  | inr unnamed ↦ ap (λ (r : Record). record r { pairs = [] }) (logs.first unnamed).1.1.1
+  | inr unnamed ↦ ap (λ (r : Record). record r { pairs = [] }) (logs.first unnamed).3
 ]
 
 -- the rooms stay
