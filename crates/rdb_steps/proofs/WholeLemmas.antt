@@ -1,5 +1,5 @@
 -- What is so of a World's state beside its cells, as memory and records change.
-use Rattle.std.proofs.Common.{◌≡◌, ◌<◌, ◌+◌, ◌*◌, ◌-◌, ◌/◌, ◌==◌, ◌≤◌, ℕ, zero, suc, List, [], length, slice_get, nat_lt, Bool, true, false, cond, Option, Some, None, IsSome, option_map, option_and_then, refl, sym, ap, subst, ◌∙◌, arith, inl, inr}
+use Rattle.std.proofs.Common.{◌≡◌, ◌<◌, ◌+◌, ◌*◌, ◌-◌, ◌/◌, ◌==◌, ◌≤◌, ◌∷◌, ℕ, zero, suc, List, [], length, slice_get, nat_lt, Bool, true, false, cond, Option, Some, None, IsSome, option_map, option_and_then, refl, sym, ap, subst, ◌∙◌, arith, inl, inr}
 use Rattle.std.specs.Option.{option_flatten}
 use Rattle.std.proofs.lemmas.Bool.{false≢true, ltb-true, ne_eqb}
 use Rattle.rdb_schema.specs.declared.schema.Schema.{Schema}

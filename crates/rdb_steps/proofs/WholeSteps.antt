@@ -32,7 +32,7 @@ use Rattle.rdb_steps.proofs.WrittenLemmas.{back_mid, pair, rooms_of_pair, seat_a
 
 no_pairs : (ps : List Pair) → (length ps == 0) ≡ true → ps ≡ []
 no_pairs [] e = refl
-no_pairs (p ∷ ps) e = absurd (false≢true e)
+no_pairs (p ∷ ps) e = let none = eqb-true (length (p ∷ ps)) 0 e in absurd (omega (arith, none))
 
 emptied_plan : (b : Bool) (h : Hand) → (cond b (record h { undo = record h.undo { pairs = [] } }) h).plan ≡ h.plan
 emptied_plan true h = refl

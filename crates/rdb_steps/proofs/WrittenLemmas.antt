@@ -85,6 +85,7 @@ module _ (manager : Manager) (memory memory_now : RegionCells) (roll mid : Roll)
   }
 
   pub shorter : length (ended manager w.written).plan.pairs + 1 ≡ length w.seat.hand.plan.pairs
+  unfolding pair
   shorter = less_one w.seat.hand.plan (ended manager w.written).plan w.next pair.plan
 
   pub seat_after : seat_of mid.seats c ≡ Some (record w.seat { hand = ended manager w.written })
