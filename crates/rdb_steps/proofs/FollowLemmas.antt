@@ -1,5 +1,5 @@
 -- What is so of a World's state beside its cells, as a connection's hand gets on with a plan, or takes a pair back.
-use Rattle.std.proofs.Common.{◌≡◌, ◌<◌, ◌≤◌, ◌+◌, ◌-◌, ◌*◌, ◌||◌, ◌++◌, ◌∷◌, ℕ, List, [], length, Bool, true, false, not, cond, Option, Some, None, IsSome, IsSomeAnd, IfSome, is_some, option_and_then, append-nil, length-append, refl, sym, ap, subst, ◌∙◌, arith}
+use Rattle.std.proofs.Common.{◌≡◌, ◌<◌, ◌≤◌, ◌+◌, ◌-◌, ◌||◌, ◌++◌, ◌∷◌, ℕ, [], length, Bool, true, false, not, cond, Option, Some, None, IsSome, is_some, option_and_then, append-nil, length-append, refl, sym, ap, subst, ◌∙◌, arith}
 use Rattle.std.specs.List.{filter_map}
 use Rattle.std.proofs.lemmas.Bool.{false≢true}
 use Rattle.std.proofs.lemmas.List.Elements.{filter_map-append}
@@ -21,7 +21,6 @@ use Rattle.rdb_registry.specs.Hands.{undo_places}
 use Rattle.rdb_registry.specs.Registry.{Roll}
 use Rattle.rdb_registry.specs.Seats.{seat_of}
 use Rattle.rdb_space.specs.Memory.{RegionCells}
-use Rattle.rdb_transactions.specs.declared.transactions.Transactions.{Transactions}
 use Rattle.rdb_transactions.specs.Claims.{is_unmarked, places_of, writes_of}
 use Rattle.rdb_transactions.specs.Phases.{IsInPhase, IsWriting}
 use Rattle.rdb_transactions.specs.Records.{edited, is_single_writer}
@@ -30,7 +29,7 @@ use Rattle.rdb_transactions.proofs.SoundLemmas.{sound_still}
 use Rattle.rdb_steps.specs.declared.state.State.{State}
 use Rattle.rdb_steps.specs.Kept.{is_rolling_back}
 use Rattle.rdb_steps.specs.Rooms.{HaveRooms}
-use Rattle.rdb_steps.specs.States.{IsFurnished, IsWhole, cell_count, operations_of, planned_by, planned_so_far}
+use Rattle.rdb_steps.specs.States.{IsFurnished, IsWhole, cell_count, planned_by, planned_so_far}
 use Rattle.rdb_steps.specs.Steps.{WritesOne, reply_to}
 use Rattle.rdb_steps.proofs.RoomLemmas.{by_transaction, moves_slot, same_rooms, told_counted}
 use Rattle.rdb_steps.proofs.WholeLemmas.{classes_stay, whole_changed}

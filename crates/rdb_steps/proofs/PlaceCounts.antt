@@ -1,14 +1,13 @@
 -- An undo record with a place for each cell of the region has room for any plan: its cells and those of the plan are different ones.
-use Rattle.std.proofs.Common.{◌≡◌, ◌≢◌, ◌⊎◌, ◌<◌, ◌≤◌, ◌+◌, ◌-◌, ◌*◌, ◌/◌, ◌%◌, ◌==◌, ◌||◌, ◌∷◌, ◌++◌, ℕ, zero, suc, List, [], length, map, filter, sum_by, count_by, slice_get, Bool, true, false, not, cond, Option, Some, None, IsSome, nat_lt, eqb, is_some, option_and_then, refl, sym, ap, subst, ◌∙◌, arith, inl, inr, eq-eqb, eqb-true, length-append, div-add-mod', div-lt_iff_lt-mul, mod-lt}
+use Rattle.std.proofs.Common.{◌≡◌, ◌⊎◌, ◌<◌, ◌≤◌, ◌+◌, ◌-◌, ◌*◌, ◌/◌, ◌==◌, ◌∷◌, ◌++◌, ℕ, zero, suc, List, [], length, map, filter, count_by, slice_get, Bool, true, false, not, cond, Option, Some, None, IsSome, nat_lt, eqb, refl, sym, ap, ◌∙◌, arith, inl, inr, eq-eqb, eqb-true, length-append}
 use Rattle.std.specs.List.{AllByRecursion, IsDistinct, list_any}
 use Rattle.std.specs.Option.{option_flatten, option_map}
-use Rattle.std.proofs.lemmas.Bool.{false≢true, ltb-true, ltb-false, cases_lt, or_parts, or_cases, or_left, false_from_ne_true}
+use Rattle.std.proofs.lemmas.Bool.{false≢true, ltb-false, or_parts, or_cases, or_left, false_from_ne_true}
 use Rattle.std.proofs.Permutation.{which}
 use Rattle.std.proofs.Math.Nat.{lt-div-mul-add}
 use Rattle.std.proofs.lemmas.List.{length-map}
 use Rattle.std.proofs.lemmas.List.Sums.{sum_by-cons}
 use Rattle.std.proofs.lemmas.Map.Steps.{length-le_from_distinct_below}
-use Rattle.std.proofs.lemmas.Option.{slice_get_within}
 use Rattle.rdb_schema.specs.declared.schema.Schema.{Schema}
 use Rattle.rdb_pages.specs.Pages.{page_cells}
 use Rattle.rdb_cells.specs.declared.pairs.Pair.{Pair}
@@ -16,7 +15,6 @@ use Rattle.rdb_cells.specs.Places.{AreDifferent}
 use Rattle.rdb_cells.specs.Records.{names, numbers_of}
 use Rattle.rdb_cells.specs.References.{first_head, class_of_head}
 use Rattle.rdb_cells.proofs.PairLemmas.{different-head, different-tail, names_none, any_right}
-use Rattle.rdb_cells.proofs.SettledLemmas.{true_or_false}
 use Rattle.rdb_registry.specs.declared.hand.Hand.{Hand}
 use Rattle.rdb_space.specs.Heads.{head_at}
 use Rattle.rdb_space.specs.Memory.{RegionCells, class_of}

@@ -1,5 +1,5 @@
 -- The room that records have, and how far numbers were drawn, as one slot's record is another.
-use Rattle.std.proofs.Common.{◌≡◌, ◌≢◌, ◌<◌, ◌≤◌, ◌+◌, ◌*◌, ◌++◌, ◌∷◌, ◌||◌, ℕ, zero, suc, List, [], length, set, get_or, sum_by, Bool, true, false, not, cond, Option, Some, None, is_some, IsSome, is_none, option_map, slice_get, slice_index, position, option_and_then, append-nil, mul-one, refl, sym, ap, subst, ◌∙◌, arith, mul-add, length-append, inl, inr}
+use Rattle.std.proofs.Common.{◌≡◌, ◌≢◌, ◌<◌, ◌≤◌, ◌+◌, ◌*◌, ◌++◌, ◌∷◌, ◌||◌, ℕ, zero, suc, List, [], length, set, get_or, sum_by, Bool, true, false, not, cond, Option, Some, None, is_some, is_none, option_map, option_and_then, append-nil, mul-one, refl, sym, ap, subst, ◌∙◌, arith, mul-add, length-append, inl, inr}
 use Rattle.std.proofs.Math.Nat.{mul-le-mul_left}
 use Rattle.std.proofs.lemmas.Bool.{false≢true}
 use Rattle.std.proofs.lemmas.List.Quantifiers.{position-Some}
@@ -20,7 +20,7 @@ use Rattle.rdb_registry.specs.declared.seat.Seat.{Seat}
 use Rattle.rdb_registry.specs.declared.seat.Transaction.{Transaction}
 use Rattle.rdb_registry.specs.Hands.{undo_places}
 use Rattle.rdb_registry.specs.Registry.{Roll, spent_by}
-use Rattle.rdb_registry.specs.Seats.{Seats, EachSeat, IsNew, changed, may_write, marked, seat_in, seat_of, with_condemned}
+use Rattle.rdb_registry.specs.Seats.{Seats, EachSeat, IsNew, may_write, marked, seat_in, seat_of, with_condemned}
 use Rattle.rdb_registry.proofs.SlotLemmas.{seat_in_other}
 use Rattle.rdb_transactions.specs.declared.transactions.Transactions.{Transactions}
 use Rattle.rdb_transactions.specs.Claims.{is_unmarked}
@@ -33,7 +33,7 @@ use Rattle.rdb_steps.specs.Moves.{TellsAlone}
 use Rattle.rdb_steps.specs.Rooms.{HaveRooms, KeepRooms, TellsFew}
 use Rattle.rdb_steps.proofs.AlikeLemmas.{told}
 use Rattle.rdb_steps.proofs.MoveLemmas.{of_one, of_none}
-use Rattle.rdb_steps.specs.States.{IsFurnished, SpareFits, AreFewer, WorkFits, operations_of, planned_so_far, planned_by, planned_in, ever_planned}
+use Rattle.rdb_steps.specs.States.{IsFurnished, SpareFits, AreFewer, operations_of, planned_so_far, planned_by, planned_in, ever_planned}
 
 -- what stands in a slot is another record, or none; so many entries come; the spare undo record and what was spent stay
 pub record MovesSlot (before after : Transactions) (slot : ℕ) (was now : Option Seat) (more : List Entry) : Type 0 where

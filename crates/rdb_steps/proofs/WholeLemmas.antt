@@ -1,5 +1,5 @@
 -- What is so of a World's state beside its cells, as memory and records change.
-use Rattle.std.proofs.Common.{◌≡◌, ◌<◌, ◌+◌, ◌*◌, ◌-◌, ◌/◌, ◌==◌, ◌≤◌, ◌∷◌, ℕ, zero, suc, List, [], length, slice_get, nat_lt, Bool, true, false, cond, Option, Some, None, IsSome, option_map, option_and_then, refl, sym, ap, subst, ◌∙◌, arith, inl, inr}
+use Rattle.std.proofs.Common.{◌≡◌, ◌<◌, ◌+◌, ◌*◌, ◌-◌, ◌/◌, ◌==◌, ◌≤◌, ◌∷◌, ℕ, zero, suc, List, [], length, slice_get, nat_lt, false, cond, Option, Some, None, IsSome, option_map, option_and_then, refl, sym, subst, ◌∙◌, arith, inl, inr}
 use Rattle.std.specs.Option.{option_flatten}
 use Rattle.std.proofs.lemmas.Bool.{false≢true, ltb-true, ne_eqb}
 use Rattle.rdb_schema.specs.declared.schema.Schema.{Schema}
@@ -7,11 +7,11 @@ use Rattle.rdb_pages.specs.Pages.{page_cells}
 use Rattle.rdb_pages.specs.declared.cell.Cell.{Cell}
 use Rattle.rdb_cells.proofs.SettledLemmas.{true_or_false}
 use Rattle.rdb_cells.specs.Images.{AreBounded}
-use Rattle.rdb_cells.specs.References.{class_head_ref, class_of_head, first_head, heads_of_a_class}
+use Rattle.rdb_cells.specs.References.{class_head_ref, class_of_head, heads_of_a_class}
 use Rattle.rdb_registry.specs.Registry.{Roll}
 use Rattle.rdb_registry.specs.Seats.{EachSeat}
 use Rattle.rdb_space.specs.Heads.{head_at, place_of_head}
-use Rattle.rdb_space.specs.Memory.{GrantsPage, IsInPage, RegionCells, class_of, image_of}
+use Rattle.rdb_space.specs.Memory.{GrantsPage, RegionCells, class_of, image_of}
 use Rattle.rdb_transactions.specs.declared.transactions.Transactions.{Transactions}
 use Rattle.rdb_transactions.specs.Sound.{IsSound}
 use Rattle.rdb_steps.specs.declared.state.State.{State}

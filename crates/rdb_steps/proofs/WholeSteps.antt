@@ -1,5 +1,5 @@
 -- What is so of a World's state beside its cells, as a connection writes the next cell of its plan, or takes a pair back.
-use Rattle.std.proofs.Common.{◌≡◌, ◌<◌, ◌+◌, ◌-◌, ◌==◌, ◌++◌, ◌∷◌, ℕ, List, [], length, Bool, true, false, cond, Option, Some, None, IsSome, IsSomeAnd, IfSome, is_some, refl, sym, ap, subst, ◌∙◌, arith, eqb-true}
+use Rattle.std.proofs.Common.{◌≡◌, ◌<◌, ◌-◌, ◌==◌, ◌++◌, ◌∷◌, ℕ, List, [], length, Bool, true, false, cond, Option, Some, None, IsSome, IsSomeAnd, IfSome, refl, sym, ap, subst, ◌∙◌, arith, eqb-true}
 use Rattle.std.proofs.lemmas.Bool.{false≢true}
 use Rattle.rdb_base.specs.declared.identity.ConnId.{ConnId}
 use Rattle.rdb_base.specs.declared.identity.Kind.TheVariants as kind
@@ -9,10 +9,9 @@ use Rattle.rdb_base.specs.declared.operation.Reply.{Reply}
 use Rattle.rdb_cells.specs.declared.pairs.Pair.{Pair}
 use Rattle.rdb_cells.specs.Records.{Record}
 use Rattle.rdb_registry.specs.declared.hand.Hand.{Hand}
-use Rattle.rdb_registry.specs.declared.hand.Work.{Work}
 use Rattle.rdb_registry.specs.declared.seat.Seat.{Seat}
 use Rattle.rdb_registry.specs.Registry.{Roll}
-use Rattle.rdb_registry.specs.Seats.{Seats, changed, seat_in, seat_of, with_hand, with_latches}
+use Rattle.rdb_registry.specs.Seats.{Seats, changed, seat_of, with_hand, with_latches}
 use Rattle.rdb_space.specs.Memory.{RegionCells}
 use Rattle.rdb_transactions.specs.Phases.{IsInPhase, IsRollingBack}
 use Rattle.rdb_transactions.specs.Records.{edited}

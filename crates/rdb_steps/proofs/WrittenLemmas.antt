@@ -1,5 +1,5 @@
 -- The record of a connection once a cell of a plan is written, or a pair is taken back.
-use Rattle.std.proofs.Common.{◌≡◌, ◌&&◌, ◌==◌, ◌++◌, ◌∷◌, ◌+◌, ℕ, List, [], length, Bool, true, false, cond, Option, Some, None, IsSome, IsSomeAnd, IfSome, is_some, slice_get, drop, refl, sym, ap, subst, ◌∙◌, arith, inl, inr}
+use Rattle.std.proofs.Common.{◌≡◌, ◌&&◌, ◌==◌, ◌++◌, ◌∷◌, ◌+◌, ℕ, List, [], length, Bool, true, false, cond, Option, Some, None, IsSomeAnd, IfSome, is_some, slice_get, drop, refl, sym, ap, subst, ◌∙◌, arith, inl, inr}
 use Rattle.std.proofs.lemmas.Bool.{false≢true, ne_eqb}
 use Rattle.rdb_base.specs.declared.identity.ConnId.{ConnId}
 use Rattle.rdb_base.specs.declared.identity.Manager.{Manager}
@@ -9,7 +9,6 @@ use Rattle.rdb_cells.specs.Images.{Image}
 use Rattle.rdb_cells.specs.Records.{Record, Logs, names}
 use Rattle.rdb_cells.proofs.SettledLemmas.{true_or_false}
 use Rattle.rdb_registry.specs.declared.hand.Hand.{Hand}
-use Rattle.rdb_registry.specs.declared.hand.Work.{Work}
 use Rattle.rdb_registry.specs.declared.own_writes.OwnWrite.{OwnWrite}
 use Rattle.rdb_registry.specs.declared.seat.Seat.{Seat}
 use Rattle.rdb_registry.specs.OwnWrites.{header_of}
@@ -20,8 +19,8 @@ use Rattle.rdb_transactions.proofs.EditLemmas.{record_after, same_seat}
 use Rattle.rdb_writes.specs.Steps.{WritesNext, TakesNewestBack, spans_one_plan, is_written, ends, ended}
 use Rattle.rdb_writes.proofs.PlanLemmas.{longer_by_one}
 use Rattle.rdb_steps.specs.States.{ground_in}
-use Rattle.rdb_steps.specs.Steps.{EndsWork, ForgetsFirst, Finishes, forgetting_own, is_at_last, released}
-use Rattle.rdb_steps.specs.Written.{EndsIn, ForgetsIn, TakesPairBack, WritesDrop, WritesPair, WritesWork, is_emptied}
+use Rattle.rdb_steps.specs.Steps.{EndsWork, ForgetsFirst, Finishes, forgetting_own, is_at_last}
+use Rattle.rdb_steps.specs.Written.{TakesPairBack, WritesDrop, WritesPair, WritesWork, is_emptied}
 
 one_more : (ps : List Pair) (p : Pair) → (length (ps ++ p ∷ []) == 1) ≡ (length ps == 0)
 one_more [] p = refl
@@ -45,10 +44,13 @@ same_room was now image n logs = elim (true_or_false (names was.pairs n)) [
 
 -- the rooms stay
 pub rooms_of_pair : (manager : Manager) (before after : RegionCells) (was now : Hand) → WritesPair manager before after was now → (now.plan.room ≡ was.plan.room) × (now.undo.room ≡ was.undo.room)
-rooms_of_pair manager before after was now pair = (sym (ap (λ (r : Record). r.room) pair.plan), elim (true_or_false (is_emptied manager was)) [
-  | inl is ↦ ap (λ (r : Record). r.room) (pair.emptied is)
-  | inr isnt ↦ ap (λ (r : Record). r.room) (same_room was.undo now.undo (image_of before) pair.next.at.number (pair.logged isnt))
-])
+rooms_of_pair manager before after was now pair = (
+  sym (ap (λ (r : Record). r.room) pair.plan),
+  elim (true_or_false (is_emptied manager was)) [
+    | inl is ↦ ap (λ (r : Record). r.room) (pair.emptied is)
+    | inr isnt ↦ ap (λ (r : Record). r.room) (same_room was.undo now.undo (image_of before) pair.next.at.number (pair.logged isnt))
+  ],
+)
 
 emptied_plan : (b : Bool) (h : Hand) → (cond b (record h { undo = record h.undo { pairs = [] } }) h).plan ≡ h.plan
 emptied_plan true h = refl

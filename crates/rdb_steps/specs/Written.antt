@@ -1,5 +1,5 @@
 -- The record of a connection once the next cell of a plan is written, or the newest pair of its undo record is taken back.
-use Rattle.std.specs.Prelude.{◌≡◌, ◌≢◌, ◌+◌, ◌&&◌, ◌++◌, ◌∷◌, ℕ, [], length, slice_get, drop, Bool, true, false, Option, Some, None, IsSome, if◌then◌else◌}
+use Rattle.std.specs.Prelude.{◌≡◌, ◌+◌, ◌&&◌, ◌++◌, ◌∷◌, ℕ, [], length, slice_get, drop, Bool, true, false, Option, Some, None, IsSome, if◌then◌else◌}
 use Rattle.rdb_base.specs.declared.identity.ConnId.{ConnId}
 use Rattle.rdb_base.specs.declared.identity.Manager.{Manager}
 use Rattle.rdb_base.specs.declared.operation.Reply.{Reply}
