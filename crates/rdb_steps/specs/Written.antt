@@ -22,8 +22,8 @@ use Rattle.rdb_steps.specs.Steps.{Finishes, is_at_last, forgetting_own}
 abbrev pub is_emptied : Manager → Hand → Bool
 is_emptied manager hand = is_at_last hand && spans_one_plan manager
 
--- The next pair of a hand's plan is written: the plan is shorter by that pair, and the undo record names its cell; but it is emptied with the
--- last cell of a plan that it spans. Nothing else in the hand changes.
+-- The next pair of a hand's plan is written: the plan is shorter by that pair, and the undo record names its cell; but it is emptied with
+-- the last cell of a plan that it spans. Nothing else in the hand changes.
 pub record WritesPair (manager : Manager) (before after : RegionCells) (was now : Hand) : Type 0 where
   pub next : Pair
   pub plan : was.plan ≡ record now.plan { pairs = now.plan.pairs ++ next ∷ [] }
@@ -47,7 +47,8 @@ pub record EndsIn (manager : Manager) (seat : Seat) (written : Hand) (now : Seat
 
 -- The next cell of the plan of an operation is written, or of a drop before it. With the reply the operation has ended; until then nothing
 -- changes but its undo record and its plan.
-pub record WritesWork (manager : Manager) (before after : RegionCells) (seats seats_now : Seats) (c : ConnId) (result : Option Reply) : Type 0 where
+pub record WritesWork (manager : Manager) (before after : RegionCells) (seats seats_now : Seats) (c : ConnId)
+    (result : Option Reply) : Type 0 where
   pub seat : Seat
   pub now : Seat
   pub written : Hand
@@ -65,8 +66,8 @@ pub record ForgetsIn (seat : Seat) (written : Hand) (now : Seat) : Type 0 where
   pub gone : (object : ℕ × ℕ) → header_of now.hand.own.items object ≡ header_of (drop 1 seat.hand.own.items) object
   pub rest : now ≡ record seat { hand = record written { own = now.hand.own }; latches = 0 }
 
--- The next cell of the drop of a record's first own version is written. With the last one that own write is gone; until then nothing changes
--- but its undo record and its plan.
+-- The next cell of the drop of a record's first own version is written. With the last one that own write is gone; until then nothing
+-- changes but its undo record and its plan.
 pub record WritesDrop (manager : Manager) (before after : RegionCells) (seats seats_now : Seats) (c : ConnId) : Type 0 where
   pub seat : Seat
   pub now : Seat
@@ -105,7 +106,8 @@ pub record KeepsCounts {P : Type 0} (before after : State P) : Type 0 where
 -- so it is of the states before and after a step
 abbrev pub WrittenWork : {P : Type 0} → State P → State P → ConnId → Option Reply → Type 0
 WrittenWork before after c result =
-    WritesWork before.transactions.manager before.memory after.memory before.transactions.registry.seats after.transactions.registry.seats c result
+    WritesWork before.transactions.manager before.memory after.memory before.transactions.registry.seats
+    after.transactions.registry.seats c result
 
 abbrev pub WrittenDrop : {P : Type 0} → State P → State P → ConnId → Type 0
 WrittenDrop before after c =
