@@ -1,7 +1,7 @@
 -- The search for a version that is to go: the place of an entry, what no box shows, and the trees below a node one after another.
-use Rattle.std.proofs.Common.{◌≡◌, ◌≢◌, ◌<◌, ◌≤◌, ◌-◌, ◌+◌, ◌++◌, ◌&&◌, zero, suc, ℕ, ℤ, List, [], ◌∷◌, length, drop, map, get_or, cond, Option, Some, None, Bool, true, false, not, refl, sym, ap, subst, ◌∙◌, arith, ltb}
-use Rattle.std.proofs.lemmas.Bool.{false≢true}
-use Rattle.std.proofs.lemmas.List.{drop_more, length-map}
+use Rattle.std.proofs.Common.{◌≡◌, ◌≢◌, ◌<◌, ◌≤◌, ◌-◌, ◌+◌, ◌*◌, ◌++◌, ◌&&◌, zero, suc, ℕ, ℤ, List, [], ◌∷◌, length, drop, map, get_or, cond, Option, Some, None, Bool, true, false, not, refl, sym, ap, subst, ◌∙◌, arith, ltb}
+use Rattle.std.proofs.lemmas.Bool.{false≢true, ltb-true, ltb-false}
+use Rattle.std.proofs.lemmas.List.{drop_all, drop_more, length-map}
 use Rattle.std.specs.List.{flat_map, remove, prefix_len, position_or_len, Contains}
 use Rattle.std.specs.Prelude.{◌==◌, IfSome, IfNone, position, int_le, unwrap_or}
 use borrow.Author.Tests.{eqb-true, eqb-false}
@@ -32,13 +32,27 @@ each_member P [] x all (k, below, is) = absurd (omega arith)
 each_member P (y ∷ ys) x all (zero, below, is) = subst P is all.0
 each_member P (y ∷ ys) x all (suc k, below, is) = each_member P ys x all.1 (k, omega arith, is)
 
+-- what an answer says in its case
+pub some_at : {A : Type 0} (o : Option A) (P : A → Type 0) (a : A) → o ≡ Some a → IfSome o P → P a
+some_at o P a same p = subst (λ (q : Option _). IfSome q P) same p
+
+pub none_at : {A : Type 0} (o : Option A) (P : Type 0) → o ≡ None → IfNone o P → P
+none_at o P same p = subst (λ (q : Option _). IfNone q P) same p
+
+same_got : (xs : List Entry) (i : ℕ) (d e : Entry) → i < length xs → get_or xs i d ≡ get_or xs i e
+same_got [] i d e low = absurd (omega arith)
+same_got (x ∷ xs) zero d e low = refl
+same_got (x ∷ xs) (suc i) d e low = same_got xs i d e (omega arith)
+
 -- the first element that fails a test
 first_fails : {X : Type 0} (q : X → Bool) (xs : List X) (d : X) → prefix_len q xs < length xs → q (get_or xs (prefix_len q xs) d) ≡ false
 first_fails q [] d below = absurd (omega arith)
 first_fails {X} q (x ∷ xs) d below = go (q x) refl below (first_fails q xs d)
   where
     go : (b : Bool) → q x ≡ b → cond b (1 + prefix_len q xs) 0 < suc (length xs) → (prefix_len q xs < length xs → q (get_or xs (prefix_len q xs) d) ≡ false) → q (get_or (x ∷ xs) (cond b (1 + prefix_len q xs) 0) d) ≡ false
-    go true e low later = later (omega arith)
+    go true e low later =
+        let next : suc (prefix_len q xs) ≡ 1 + prefix_len q xs = omega arith in
+        subst (λ (k : ℕ). q (get_or (x ∷ xs) k d) ≡ false) next (later (omega arith))
     go false e low later = e
 
 all_pass : {X : Type 0} (q : X → Bool) (xs : List X) → length xs ≤ prefix_len q xs → Each (λ x. q x ≡ true) xs
@@ -66,7 +80,7 @@ found_entry entries at place d e = go (ltb (position_or_len (λ (x : Entry). x.a
     go true t =
         let there : Some place ≡ Some (position_or_len (λ (x : Entry). x.at.number == at.number) entries) = e ∙ ap (λ (b : Bool). cond b (Some (position_or_len (λ (x : Entry). x.at.number == at.number) entries)) None) t in
         let is : place ≡ position_or_len (λ (x : Entry). x.at.number == at.number) entries = cc in
-        let low : position_or_len (λ (x : Entry). x.at.number == at.number) entries < length entries = omega arith in (
+        let low : position_or_len (λ (x : Entry). x.at.number == at.number) entries < length entries = ltb-true (position_or_len (λ (x : Entry). x.at.number == at.number) entries) (length entries) t in (
           subst (λ (i : ℕ). i < length entries) (sym is) low,
           subst (λ (i : ℕ). (get_or entries i d).at.number ≡ at.number) (sym is)
               (eqb-true (get_or entries (position_or_len (λ (x : Entry). x.at.number == at.number) entries) d).at.number at.number
@@ -85,7 +99,7 @@ no_entry entries at e = go (ltb (position_or_len (λ (x : Entry). x.at.number ==
     go : (b : Bool) → ltb (position_or_len (λ (x : Entry). x.at.number == at.number) entries) (length entries) ≡ b → AreElsewhere at entries
     go true t = absurd (let none : None ≡ Some (position_or_len (λ (x : Entry). x.at.number == at.number) entries) = e ∙ ap (λ (b : Bool). cond b (Some (position_or_len (λ (x : Entry). x.at.number == at.number) entries)) None) t in cc)
     go false t =
-        let long : length entries ≤ position_or_len (λ (x : Entry). x.at.number == at.number) entries = omega arith in
+        let long : length entries ≤ position_or_len (λ (x : Entry). x.at.number == at.number) entries = ltb-false (position_or_len (λ (x : Entry). x.at.number == at.number) entries) (length entries) t in
         each_elsewhere entries at (all_pass (λ (x : Entry). not (x.at.number == at.number)) entries long)
 
 -- a leaf none of whose entries stands in the cell
@@ -120,6 +134,13 @@ pub outside_node : (keys : Meaning) (said : Sayings) (image : Image) (node : Ent
 outside_node keys said image node level lost h t is out =
     all_others said lost is.lost_is t.cover (ap (lies_in lost.cover) (sym is.cover_is) ∙ out) (versions_below h t.below) (boxes_lie said h t is.keyed.shaped is.covers)
 
+-- a tree below a node doesn't have the version, and neither have those behind it
+pub step_others : (at : CellRef) (all first rest : List CellRef) → all ≡ first ++ rest → AreOthers at first → AreOthers at rest → AreOthers at all
+step_others at all first rest same one others = subst (AreOthers at) (sym same) (each_both (λ (r : CellRef). r.number ≢ at.number) first rest one others)
+
+pub end_others : (at : CellRef) (h : ℕ) (ts : List (RTree h)) (i : ℕ) → length ts ≤ i → AreOthers at (versions_below h (drop i ts))
+end_others at h ts i past = subst (λ (us : List (RTree h)). AreOthers at (versions_below h us)) (sym (drop_all ts i past)) tt
+
 -- the tree at a place below a node, and what stands behind it
 pub record IsLosing (keys : Meaning) (said : Sayings) (image : Image) (level : ℕ) (lost : Entry) (h : ℕ) (ts : List (RTree h)) (i : ℕ) (e : Entry) : Type 0 where
   pub height : ℕ
@@ -146,26 +167,26 @@ module _ (keys : Meaning) (said : Sayings) (w : Work) (node : Entry) (level : �
       }
 
   -- the version was found below it
-  module _ (mid : Work) (left rest : List Entry) (value : get_or entries i d ≡ get_or entries i (get_or entries i d)) (rest_is : rest ≡ remove entries i)
+  module _ (mid : Work) (left rest : List Entry) (rest_is : rest ≡ remove entries i)
       (has : (k : ℕ) (child : Node (RTree k)) → IsShrinking keys said (reading w) (get_or entries i d) (level - 1) lost k child → HasShrunk said w mid lost.at k child.below left) where
     pub losing_mends : RestsOnVersions keys → (h : ℕ) (t : Node (RTree h)) → IsShrinking keys said (reading w) node level lost h t → entries ≡ entries_above said h t.below → (k : ℕ) × (own : List (RTree k)) × (beside : List (RTree (suc k))) × IsToMend keys said mid (get_or entries i d).at (level - 1) k own beside left rest
     losing_mends rests zero t is are = absurd (inner is.keyed.tree.level_is)
     losing_mends rests (suc k) t is are =
-        let p = pick said (suc k) t.below entries rest i (get_or entries i d) low value rest_is are in
+        let p = pick said (suc k) t.below entries rest i (get_or entries i d) low (same_got entries i d (get_or entries i d) low) rest_is are in
         let shrunk = has k p.one (child_shrinking keys said w node level lost k t is p.front p.back p.one p.split (get_or entries i d) p.chosen_is) in
         (k, shrunk.now, p.front ++ p.back, child_mends keys said w node level lost k t is p.front p.back p.one p.split mid left shrunk rests (get_or entries i d) p.chosen_is rest p.rest_are)
 
     pub losing_room : (h : ℕ) (t : Node (RTree h)) → IsShrinking keys said (reading w) node level lost h t → entries ≡ entries_above said h t.below → HasPlaces w (2 * level) → HasPlaces mid 2
     losing_room zero t is are room = absurd (inner is.keyed.tree.level_is)
     losing_room (suc k) t is are room =
-        let p = pick said (suc k) t.below entries rest i (get_or entries i d) low value rest_is are in
+        let p = pick said (suc k) t.below entries rest i (get_or entries i d) low (same_got entries i d (get_or entries i d) low) rest_is are in
         let shrunk = has k p.one (child_shrinking keys said w node level lost k t is p.front p.back p.one p.split (get_or entries i d) p.chosen_is) in
         mid_room keys said w node level lost k t is p.front p.back p.one p.split mid left shrunk room
 
     pub losing_shrunk : RestsOnVersions keys → (after : Work) (now : List Entry) → ((k : ℕ) (own : List (RTree k)) (beside : List (RTree (suc k))) → IsToMend keys said mid (get_or entries i d).at (level - 1) k own beside left rest → IsMended said mid after (get_or entries i d).at k own beside now) → (h : ℕ) (t : Node (RTree h)) → IsShrinking keys said (reading w) node level lost h t → entries ≡ entries_above said h t.below → HasShrunk said w after lost.at h t.below now
     losing_shrunk rests after now mends zero t is are = absurd (inner is.keyed.tree.level_is)
     losing_shrunk rests after now mends (suc k) t is are =
-        let p = pick said (suc k) t.below entries rest i (get_or entries i d) low value rest_is are in
+        let p = pick said (suc k) t.below entries rest i (get_or entries i d) low (same_got entries i d (get_or entries i d) low) rest_is are in
         let shrunk = has k p.one (child_shrinking keys said w node level lost k t is p.front p.back p.one p.split (get_or entries i d) p.chosen_is) in
         let mended = mends k shrunk.now (p.front ++ p.back) (child_mends keys said w node level lost k t is p.front p.back p.one p.split mid left shrunk rests (get_or entries i d) p.chosen_is rest p.rest_are) in
         shrunk_inner keys said w node level lost k t is p.front p.back p.one p.split mid left shrunk after now

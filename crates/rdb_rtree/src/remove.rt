@@ -124,10 +124,14 @@ fn without(entries: Entries, at: CellRef) -> Option<Entries>
     ensures found { IfSome result (λ left. IsWithout entries.items at left.items) }
     ensures none { IfNone result (AreElsewhere at entries.items) }
 {
-    let mut left = entries;
-    let place = place_of(left.as_slice(), at)?;
-    let _lost = left.remove(place);
-    Some(left)
+    match place_of(entries.as_slice(), at) {
+        Some(place) => {
+            let mut left = entries;
+            let _lost = left.remove(place);
+            Some(left)
+        }
+        None => None,
+    }
 }
 
 /// Takes the version out from below a node, and returns the entries that the node is to have, which may be one too few; or
