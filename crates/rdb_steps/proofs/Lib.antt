@@ -43,3 +43,4 @@ pub mod RoomLemmas
 pub mod WrittenLemmas
 pub mod FollowLemmas
 pub mod WholeSteps
+pub mod NearLemmas

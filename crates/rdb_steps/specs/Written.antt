@@ -1,5 +1,5 @@
 -- The record of a connection once the next cell of a plan is written, or the newest pair of its undo record is taken back.
-use Rattle.std.specs.Prelude.{◌≡◌, ◌+◌, ◌&&◌, ◌++◌, ◌∷◌, ℕ, [], length, slice_get, drop, Bool, true, false, Option, Some, None, IsSome, if◌then◌else◌}
+use Rattle.std.specs.Prelude.{◌≡◌, ◌<◌, ◌+◌, ◌&&◌, ◌++◌, ◌∷◌, ℕ, [], length, slice_get, drop, Bool, true, false, Option, Some, None, IsSome, if◌then◌else◌}
 use Rattle.rdb_base.specs.declared.identity.ConnId.{ConnId}
 use Rattle.rdb_base.specs.declared.identity.Manager.{Manager}
 use Rattle.rdb_base.specs.declared.operation.Reply.{Reply}
@@ -16,7 +16,8 @@ use Rattle.rdb_registry.specs.Seats.{Seats, seat_of}
 use Rattle.rdb_space.specs.Memory.{RegionCells, image_of}
 use Rattle.rdb_writes.specs.Steps.{spans_one_plan}
 use Rattle.rdb_steps.specs.declared.state.State.{State}
-use Rattle.rdb_steps.specs.Steps.{Finishes, is_at_last, forgetting_own}
+use Rattle.rdb_steps.specs.Debt.{debt}
+use Rattle.rdb_steps.specs.Steps.{Finishes, is_at_last, forgetting_own, seat_at}
 
 -- with the next cell of the plan the undo record is emptied, which spanned that plan
 abbrev pub is_emptied : Manager → Hand → Bool
@@ -115,3 +116,12 @@ WrittenDrop before after c =
 
 abbrev pub TakenBack : {P : Type 0} → State P → State P → ConnId → Type 0
 TakenBack before after c = TakesPairBack before.memory after.memory before.transactions.registry.seats after.transactions.registry.seats c
+
+-- how many steps are left of a record's work falls, whatever versions of its class and pages without an owner there are
+abbrev pub FallsDebt : Manager → Seat → Seat → Type 0
+FallsDebt manager seat now = (versions pages : ℕ) → debt manager now versions pages < debt manager seat versions pages
+
+-- so it is of the record of a connection
+abbrev pub ComesNearer : {P : Type 0} → State P → State P → ConnId → Type 0
+ComesNearer before after c =
+    (seat now : Seat) → seat_at before c ≡ Some seat → seat_at after c ≡ Some now → FallsDebt before.transactions.manager seat now

@@ -10,7 +10,7 @@ ghost use Rattle.rdb_steps.specs.Kept.{is_dropping};
 ghost use Rattle.rdb_steps.specs.Lists.{the_aimed};
 ghost use Rattle.rdb_steps.specs.States.{IsKeptSomehow, IsWhole};
 ghost use Rattle.rdb_steps.specs.Steps.{KeepsAs, OnlyRecord, WritesOne, EndsWork, ForgetsFirst, seat_at, settled_by_writing, reply_next, version_at};
-ghost use Rattle.rdb_steps.specs.Written.{KeepsCounts, WrittenDrop, WrittenWork};
+ghost use Rattle.rdb_steps.specs.Written.{ComesNearer, KeepsCounts, WrittenDrop, WrittenWork};
 
 use crate::finish::finish;
 use crate::state::State;
@@ -36,6 +36,7 @@ impl<P: Pages> State<P> {
         ensures record { OnlyRecord self.old self.new c }
         ensures becomes { WrittenWork self.old self.new c result }
         ensures counts { KeepsCounts self.old self.new }
+        ensures nearer { ComesNearer self.old self.new c }
         ensures whole { IsWhole self.new }
     {
         self.transactions.registry.sound();
