@@ -29,6 +29,7 @@ pub mod WithoutLemmas
 pub mod MarkLemmas
 pub mod BeginLemmas
 pub mod DroppingLemmas
+pub mod LaidLemmas
 pub mod WholeLemmas
 pub mod PageLemmas
 pub mod HandKept

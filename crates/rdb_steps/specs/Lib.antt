@@ -7,6 +7,8 @@ pub mod Debt
 pub mod Invariant
 pub mod Making
 pub mod States
+pub mod Planning
+pub mod Laid
 pub mod Moves
 pub mod Steps
 pub mod Rooms

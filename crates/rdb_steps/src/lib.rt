@@ -17,6 +17,7 @@
 mod finish;
 mod grant;
 mod laws;
+mod laying;
 mod moves;
 mod plan_laws;
 mod rooms;
