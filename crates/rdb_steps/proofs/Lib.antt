@@ -45,3 +45,6 @@ pub mod WrittenLemmas
 pub mod FollowLemmas
 pub mod WholeSteps
 pub mod NearLemmas
+pub mod ClassHolds
+pub mod PlacesLemmas
+pub mod DuePlans

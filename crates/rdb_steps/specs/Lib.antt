@@ -7,10 +7,10 @@ pub mod Debt
 pub mod Invariant
 pub mod Making
 pub mod States
-pub mod Planning
-pub mod Laid
 pub mod Moves
 pub mod Steps
+pub mod Planning
+pub mod Laid
 pub mod Rooms
 pub mod LaidPlans
 pub mod Written

@@ -1,6 +1,7 @@
 -- What the steps that make plans, and that take operations into work, do to a World's state.
-use Rattle.std.specs.Prelude.{◌≡◌, ◌≢◌, ◌+◌, ◌<◌, ℕ, List, [], length, slice_get, slice_index, slice_set, Option, Some, None, false, IsSomeAnd, option_map}
+use Rattle.std.specs.Prelude.{◌≡◌, ◌≢◌, ◌+◌, ◌<◌, ◌++◌, ℕ, List, [], length, slice_get, slice_index, slice_set, Option, Some, None, false, IsSomeAnd, option_map}
 use Rattle.rdb_base.specs.declared.identity.ConnId.{ConnId}
+use Rattle.rdb_base.specs.declared.identity.Manager.{Manager}
 use Rattle.rdb_base.specs.declared.identity.Phase.TheVariants as phase
 use Rattle.rdb_base.specs.declared.operation.Op.{Op}
 use Rattle.rdb_base.specs.declared.operation.Op.TheVariants as op
@@ -14,14 +15,17 @@ use Rattle.rdb_registry.specs.declared.seat.Seat.{Seat}
 use Rattle.rdb_registry.specs.declared.seat.Transaction.{Transaction}
 use Rattle.rdb_registry.specs.Registry.{Roll, spent_by, with_spent}
 use Rattle.rdb_registry.specs.Seats.{seat_of, add_latch}
-use Rattle.rdb_sight.specs.Versions.{Versions, chain_in}
+use Rattle.rdb_sight.specs.Versions.{Version, Versions, chain_in, with_chain_in}
 use Rattle.rdb_transactions.specs.Records.{edited, on_hand}
 use Rattle.rdb_transactions.specs.Sound.{Has}
 use Rattle.rdb_steps.specs.declared.state.State.{State}
+use Rattle.rdb_steps.specs.Debt.{debt}
 use Rattle.rdb_steps.specs.Kept.{tx_of}
-use Rattle.rdb_steps.specs.Making.{with_id, with_put, version_put}
+use Rattle.rdb_steps.specs.Making.{IsGarbageAt, with_id, with_put, version_put}
 use Rattle.rdb_steps.specs.Phases.{IsWriter}
 use Rattle.rdb_steps.specs.Planned.{id_named}
+use Rattle.rdb_steps.specs.States.{Keeps}
+use Rattle.rdb_steps.specs.Steps.{seat_at}
 
 -- the state with another registry
 abbrev pub with_registry : {P : Type 0} → State P → Roll → State P
@@ -56,10 +60,33 @@ FirstWrite s c P = Has s.transactions c (λ seat. IsSomeAnd (slice_get seat.hand
 abbrev pub planning : Record → Hand → Hand
 planning plan hand = record hand { plan = plan }
 
--- A plan is laid in a connection's hand, and nothing else changes.
+-- A plan that has a cell is laid in a connection's hand, and nothing else changes.
 pub record LaysIn {P : Type 0} (before after : State P) (c : ConnId) : Type 0 where
   pub made : Record
+  pub some : made.pairs ≢ []
   pub is : after ≡ with_registry before (with_hand_of before.transactions.registry c (planning made))
+
+-- a version of a class with this header is garbage, among those that are aimed at
+abbrev pub IsToGo : {P : Type 0} → State P → ℕ → ℕ → Type 0
+IsToGo s class header =
+    (settled : Versions) × (aimed : Versions) × Keeps s settled aimed
+    × (floor : Option ℕ) × (id : ℕ) × (newer : List Version) × (older : List Version) × IsGarbageAt floor aimed class id header newer older
+
+-- whatever versions are settled and aimed at before: the garbage version with this header is aimed at no more, and the settled ones stay
+abbrev pub KeepsWithout : {P : Type 0} → State P → State P → ℕ → ℕ → Type 0
+KeepsWithout before after class header =
+    (settled aimed : Versions) (floor : Option ℕ) (id : ℕ) (newer older : List Version) → Keeps before settled aimed
+    → IsGarbageAt floor aimed class id header newer older → Keeps after settled (with_chain_in aimed class id (newer ++ older))
+
+-- how many steps are left of a record's work falls as its class has a version less, however many that leaves it, and whatever pages
+-- without an owner there are
+abbrev pub FallsWithVersion : Manager → Seat → Seat → Type 0
+FallsWithVersion manager seat now = (versions pages : ℕ) → debt manager now versions pages < debt manager seat (versions + 1) pages
+
+-- so it is of the record of a connection
+abbrev pub ComesNearerWithVersion : {P : Type 0} → State P → State P → ConnId → Type 0
+ComesNearerWithVersion before after c =
+    (seat now : Seat) → seat_at before c ≡ Some seat → seat_at after c ≡ Some now → FallsWithVersion before.transactions.manager seat now
 
 -- A connection has the latch of a class, too, and a plan is laid in its hand; nothing else changes.
 pub record LaysLatched {P : Type 0} (before after : State P) (c : ConnId) (class : ℕ) : Type 0 where

@@ -14,6 +14,7 @@
 //! | a mark            | –                      | `a_mark_settles_what_was_aimed_at`     | those aimed at               | stay                         |
 #![tactic(auto)]
 
+mod drop_plan;
 mod finish;
 mod grant;
 mod laws;
