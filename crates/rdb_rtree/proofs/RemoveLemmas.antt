@@ -8,8 +8,10 @@ use Rattle.rdb_pages.specs.Pages.{zero_cell}
 use Rattle.rdb_cells.specs.declared.kind.Kind.TheVariants as kind
 use Rattle.rdb_cells.specs.declared.formats.rtree.RtreeNode.{RtreeNode}
 use Rattle.rdb_cells.specs.HeadFormat.{index_head_cell, rooted_head}
+use Rattle.rdb_cells.specs.Images.{IsCell}
 use Rattle.rdb_cells.specs.Keys.{Meaning, Sayings, says}
 use Rattle.rdb_cells.specs.Links.{IsAmong, AreOnce}
+use Rattle.rdb_cells.specs.RtreeFormat.{rtree_node_cell}
 use Rattle.rdb_cells.specs.Words.{HasKind}
 use Rattle.rdb_cells.specs.Work.{Work, reading}
 use Rattle.rdb_cells.proofs.LinkLemmas.{among_either}
@@ -23,6 +25,7 @@ use Rattle.rdb_rtree.proofs.AccountLemmas.{account_within, account_then, reads_s
 use Rattle.rdb_rtree.proofs.ChosenLemmas.{low_level}
 use Rattle.rdb_rtree.proofs.CountLemmas.{count, count_cons, count_append, count_same, among_count, count_among, once_count, listed, listed_cons, listed_same, numbers_permute, versions_permute}
 use Rattle.rdb_rtree.proofs.LookupLemmas.{HasBoxIn, versions_lie}
+use Rattle.rdb_rtree.proofs.NodeLemmas.{cell_there}
 use Rattle.rdb_rtree.proofs.RootLemmas.{not_head}
 use Rattle.rdb_rtree.proofs.SearchLemmas.{each_member}
 use Rattle.rdb_rtree.proofs.WholeLemmas.{low_root}
@@ -44,6 +47,14 @@ module _ (keys : Meaning) (w : Work) (head : CellRef) (listed_are : List CellRef
 
   pub listed_boxed : HasProperBox (says keys (reading w)) version
   listed_boxed = boxed_of is.tree is.shape is.listed_is
+
+  cell_of_root : (tree : Tree) → root_of tree ≡ at → TreeStands (reading w) tree → listed_are ≡ versions_of tree → IsCell (reading w) at.number
+  cell_of_root Empty same stands are = absurd (each_member (λ r. ⊥) [] version tt (subst (λ (rs : List CellRef). Contains rs version) are within))
+  cell_of_root (Rooted h t) same stands are = subst (λ (r : CellRef). IsCell (reading w) r.number) same (cell_there (reading w) t.at.number (rtree_node_cell (node_of h t)) stands.0.here)
+
+  -- the root's cell is there
+  pub root_cell : IsCell (reading w) at.number
+  root_cell = cell_of_root is.tree root is.stands is.listed_is
 
   module _ (lost : Entry) (lost_is : lost ≡ entry_of (says keys (reading w)) 0 version) (node : RtreeNode) (read : (n : RtreeNode) → IsNodeAt (reading w) at n → node ≡ n) where
     top_of : (tree : Tree) → root_of tree ≡ at → TreeStands (reading w) tree → IsRtree (says keys (reading w)) tree → reading w head.number ≡ Some (index_head_cell (rooted_head (root_of tree))) → nodes ≡ cells_of tree → listed_are ≡ versions_of tree → IsTop keys (says keys (reading w)) w head (record { at = at; cover = node.cover }) node.level lost tree
