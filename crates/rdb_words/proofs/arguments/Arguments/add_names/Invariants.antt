@@ -1,6 +1,6 @@
 use Rattle.std.proofs.Common.{◌≡◌, map, take, string_bytes}
-use Rattle.rdb_runner.specs.CommandLine.{given_of, with_names}
-use Rattle.rdb_runner.proofs.command_line.Arguments.add_names.Given as goal
+use Rattle.rdb_words.specs.Grammar.{given_of, with_names}
+use Rattle.rdb_words.proofs.arguments.Arguments.add_names.Given as goal
 
 abbrev pub invariant-loop-word : goal.invariant-loop-word
 invariant-loop-word l =

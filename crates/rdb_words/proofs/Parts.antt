@@ -3,7 +3,7 @@ use Rattle.std.proofs.Common.{◌≡◌, ◌≢◌, ℕ, ◌+◌, ◌<◌, List,
 use Rattle.std.proofs.lemmas.List.{append_cancel_left, append-nil, length-map}
 use Rattle.std.specs.List.{flat_map}
 use Rattle.std.specs.Option.{option_to_list}
-use Rattle.rdb_runner.specs.CommandLine.{Word, Part, manager, pages, threads, name, Given, Adds, BeginsWithOption, BeginsWith, BeginsWithAll, IsEnd, manager_in, pages_in, threads_in, name_in, flag_to_list}
+use Rattle.rdb_words.specs.Grammar.{Word, Part, manager, pages, threads, name, Given, Adds, BeginsWithOption, BeginsWith, BeginsWithAll, IsEnd, manager_in, pages_in, threads_in, name_in, flag_to_list}
 
 -- what holds anyhow holds of `None`
 pub if_none : {A : Type 0} {P : Type 0} (r : Option A) → P → IfNone r P

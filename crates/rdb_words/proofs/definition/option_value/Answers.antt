@@ -1,7 +1,7 @@
 use Rattle.std.proofs.Common.{map, string_bytes, arith, ap, ◌∙◌}
 use Rattle.std.proofs.lemmas.Grind.{common_steps}
-use Rattle.rdb_runner.proofs.CommandLineParts.{if_none, no_option, no_equals}
-use Rattle.rdb_runner.proofs.command_line.option_value.Goals as goal
+use Rattle.rdb_words.proofs.Parts.{if_none, no_option, no_equals}
+use Rattle.rdb_words.proofs.definition.option_value.Goals as goal
 
 pub returns-in_err-tail-clause-none : goal.returns-in_err-tail-clause-none
 returns-in_err-tail-clause-none c =

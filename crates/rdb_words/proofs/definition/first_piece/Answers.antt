@@ -1,7 +1,7 @@
 use Rattle.std.proofs.Common.{map, string_bytes, slice_index, rules, ap, ◌∙◌, sym, lit<}
 use Rattle.std.proofs.lemmas.Str.Pattern.{starts_char}
-use Rattle.rdb_runner.proofs.CommandLineParts.{no_first}
-use Rattle.rdb_runner.proofs.command_line.first_piece.Goals as goal
+use Rattle.rdb_words.proofs.Parts.{no_first}
+use Rattle.rdb_words.proofs.definition.first_piece.Goals as goal
 
 pub returns-then-starts_with-clause-none : goal.returns-then-starts_with-clause-none
 returns-then-starts_with-clause-none c =

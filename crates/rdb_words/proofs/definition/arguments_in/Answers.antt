@@ -1,8 +1,8 @@
 use Rattle.std.proofs.Common.{map, string_bytes, rules, ap, refl}
 use Rattle.std.proofs.lemmas.List.{length-map}
-use Rattle.rdb_runner.proofs.CommandLineParts.{if_none, more_mapped, none_mapped}
-use Rattle.rdb_runner.proofs.CommandLineReading.{reads_more, reads_all, reads_names, reads_no_more, reads_no_room, too_many, shorter}
-use Rattle.rdb_runner.proofs.command_line.arguments_in.Goals as goal
+use Rattle.rdb_words.proofs.Parts.{if_none, more_mapped, none_mapped}
+use Rattle.rdb_words.proofs.Completion.{reads_more, reads_all, reads_names, reads_no_more, reads_no_room, too_many, shorter}
+use Rattle.rdb_words.proofs.definition.arguments_in.Goals as goal
 
 pub returns-in_err-add_names-clause-none : goal.returns-in_err-add_names-clause-none
 returns-in_err-add_names-clause-none c =

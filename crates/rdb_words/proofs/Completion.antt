@@ -2,9 +2,9 @@
 use Rattle.std.proofs.Common.{◌≡◌, ◌+◌, ◌≤◌, ◌<◌, Bool, true, false, List, [], ◌∷◌, ◌++◌, length, Option, Some, None, codes, refl, sym, ap, ◌∙◌, inl, inr, subst, arith, length-append}
 use Rattle.std.specs.List.{flat_map}
 use Rattle.std.specs.Option.{option_to_list}
-use Rattle.rdb_runner.specs.CommandLine.{Word, Part, manager, pages, threads, name, Given, Gives, Adds, BeginsWith, BeginsWithAll, IsEnd, name_in, flag_to_list, with_names}
+use Rattle.rdb_words.specs.Grammar.{Word, Part, manager, pages, threads, name, Given, Gives, Adds, BeginsWith, BeginsWithAll, IsEnd, name_in, flag_to_list, with_names}
 use Rattle.std.proofs.lemmas.List.{append-nil}
-use Rattle.rdb_runner.proofs.CommandLineParts.{Completes, Goes, goes, step, step_back, no_part, same_head, same_tail}
+use Rattle.rdb_words.proofs.Parts.{Completes, Goes, goes, step, step_back, no_part, same_head, same_tail}
 
 -- nothing is given yet
 abbrev pub nothing : Given
