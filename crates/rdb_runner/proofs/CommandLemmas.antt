@@ -4,7 +4,8 @@ use Rattle.rdb_runner.specs.declared.command_line.Settings.{Settings}
 use Rattle.rdb_runner.specs.declared.status.Status.{Status}
 use Rattle.rdb_runner.specs.declared.status.Status.TheVariants.{Usage, CutOff, NoMemory, NotBuilt}
 use Rattle.rdb_runner.specs.Command.{IsNoCommandLine, usage_line, not_built_line, Task, unbuilt, task_of, SeesNothing, UsageOwes, UnbuiltOwes, IsBuilt, CommandEnds, TaskEnds, WordsEnd}
-use Rattle.rdb_runner.specs.CommandLine.{Word, Command, replay, IsCommandLine, texts}
+use Rattle.rdb_words.specs.Grammar.{Word, texts}
+use Rattle.rdb_runner.specs.CommandLine.{Command, replay, IsCommandLine}
 use Rattle.rdb_runner.specs.Ending.{Ends}
 use Rattle.rdb_runner.specs.Reading.{Sight}
 use Rattle.rdb_runner.specs.Statuses.{number_of}

@@ -1,8 +1,10 @@
 //! The top call: the words of a command line in, the number of a status out. It touches the caller's files and sink alone.
 
 ghost use Rattle.std.specs.Prelude.{◌≡◌, ◌≢◌, ◌≤◌, [], ◌∷◌, map, length, string_bytes, IfOk, IfSome, IfNone};
-ghost use Rattle.rdb_runner.specs.Command.{WordsEnd, CommandEnds, IsBuilt, task_of};
-ghost use Rattle.rdb_runner.specs.CommandLine.{command_of, IsWithinLimits, texts};
+ghost use Rattle.std.specs.Bool.{OnTrue, OnFalse};
+ghost use Rattle.rdb_words.specs.Grammar.{texts};
+ghost use Rattle.rdb_runner.specs.Command.{WordsEnd, CommandEnds, IsBuilt, task_of, unbuilt};
+ghost use Rattle.rdb_runner.specs.CommandLine.{command_of, IsWithinLimits};
 ghost use Rattle.rdb_runner.specs.Job.{files_of};
 ghost use Rattle.rdb_runner.specs.Parts.{names_of};
 ghost use Rattle.rdb_runner.specs.Promise.{ReplayEnds};
@@ -114,14 +116,31 @@ fn end_command<F: Files, K: Sink>(
     }
 }
 
-/// What words end with.
+/// Whether a command is built yet.
+fn is_built(line: &CommandLine<'_>) -> bool
+    ensures yes { OnTrue result (IsBuilt (task_of (command_of line.now))) }
+    ensures no { OnFalse result (task_of (command_of line.now) ≡ unbuilt) }
+{
+    match line {
+        CommandLine::Replay { clients, .. } => only_client(clients.as_slice()).is_some(),
+        CommandLine::Audit { .. } | CommandLine::Check { .. } => true,
+        CommandLine::Run { .. } | CommandLine::Job { .. } => false,
+    }
+}
+
+/// What words end with: those that pass the definition are read with clap. A command that isn't built says so even where memory for that
+/// is wanting.
 fn end_words<F: Files, K: Sink>(alloc: Global, words: &[String], files: &mut F, out: &mut K) -> u8
     ensures { WordsEnd (map string_bytes words.now)
         (sight_of F.told F.asked F.faults files.old files.new) (ink_of K.written K.faults out.old out.new) result }
 {
-    match command_line::read(words) {
-        Some(line) => end_command(alloc, &line, files, out),
-        None => answer(out, Status::Usage, b"regiondb: usage\n"),
+    let Some(tested) = command_line::tested(words) else {
+        return answer(out, Status::Usage, b"regiondb: usage\n");
+    };
+    match command_line::read(alloc, words) {
+        Ok(line) => end_command(alloc, &line, files, out),
+        Err(_) if is_built(&tested) => Status::NoMemory.number(),
+        Err(_) => end_command(alloc, &tested, files, out),
     }
 }
 

@@ -1,7 +1,7 @@
 use Rattle.std.proofs.Common.{map, string_bytes, ap, ◌∙◌, ◌∷◌, sym}
-use Rattle.rdb_runner.proofs.CommandLineParts.{if_none, if_none_then}
+use Rattle.rdb_words.proofs.Parts.{if_none, if_none_then}
 use Rattle.rdb_runner.proofs.CommandLineMeaning.{no_given, no_command}
-use Rattle.rdb_runner.proofs.command_line.read.Goals as goal
+use Rattle.rdb_runner.proofs.command_line.tested.Goals as goal
 
 pub returns-in_err-arguments-clause-none : goal.returns-in_err-arguments-clause-none
 returns-in_err-arguments-clause-none c =
