@@ -44,3 +44,4 @@ pub mod WrittenLemmas
 pub mod FollowLemmas
 pub mod WholeSteps
 pub mod NearLemmas
+pub mod OrderedLemmas
