@@ -48,3 +48,4 @@ pub mod NearLemmas
 pub mod ClassHolds
 pub mod PlacesLemmas
 pub mod DuePlans
+pub mod OwnDropPlans

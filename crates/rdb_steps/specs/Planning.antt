@@ -21,7 +21,7 @@ use Rattle.rdb_transactions.specs.Sound.{Has}
 use Rattle.rdb_steps.specs.declared.state.State.{State}
 use Rattle.rdb_steps.specs.Debt.{debt}
 use Rattle.rdb_steps.specs.Kept.{tx_of}
-use Rattle.rdb_steps.specs.Making.{IsGarbageAt, with_id, with_put, version_put}
+use Rattle.rdb_steps.specs.Making.{IsGarbageAt, with_id, with_put, without_own, version_put}
 use Rattle.rdb_steps.specs.Phases.{IsWriter}
 use Rattle.rdb_steps.specs.Planned.{id_named}
 use Rattle.rdb_steps.specs.States.{Keeps}
@@ -88,10 +88,18 @@ abbrev pub ComesNearerWithVersion : {P : Type 0} → State P → State P → Con
 ComesNearerWithVersion before after c =
     (seat now : Seat) → seat_at before c ≡ Some seat → seat_at after c ≡ Some now → FallsWithVersion before.transactions.manager seat now
 
--- A connection has the latch of a class, too, and a plan is laid in its hand; nothing else changes.
+-- A connection has the latch of a class, too, and a plan that has a cell is laid in its hand; nothing else changes.
 pub record LaysLatched {P : Type 0} (before after : State P) (c : ConnId) (class : ℕ) : Type 0 where
   pub made : Record
+  pub some : made.pairs ≢ []
   pub is : after ≡ with_registry before (with_hand_of (edited before.transactions.registry c.slot (add_latch class)) c (planning made))
+
+-- whatever versions are settled and aimed at before: the version that a connection's open transaction wrote of the first of its objects is
+-- aimed at no more, and the settled ones stay
+abbrev pub KeepsWithoutFirst : {P : Type 0} → State P → State P → ConnId → Type 0
+KeepsWithoutFirst before after c =
+    (settled aimed : Versions) → Keeps before settled aimed → FirstWrite before c (λ seat own. (t : Transaction) → seat.transaction ≡ Some t
+    → Keeps after settled (without_own aimed own.class own.id (tx_of seat t)))
 
 -- the id of the object that an operation writes: the next one of its class where it makes an object
 abbrev pub id_to_write : List ℕ → Op → ℕ

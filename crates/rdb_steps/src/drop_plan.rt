@@ -1,13 +1,9 @@
 //! The drop of a garbage version is planned, before the own plan of an operation. It reads cells, and changes one hand.
 
-ghost use Rattle.std.specs.Prelude.{◌≡◌, List, IsSomeAnd};
-ghost use Rattle.rdb_base.specs.declared.identity.ConnId.{ConnId as ConnIdValue};
+ghost use Rattle.std.specs.Prelude.{IsSomeAnd};
 ghost use Rattle.rdb_cells.specs.Records.{IsRecord};
-ghost use Rattle.rdb_sight.specs.Versions.{Versions, objects_in};
-ghost use Rattle.rdb_store.specs.FirstGarbage.{IsFirstGarbage};
-ghost use Rattle.rdb_steps.specs.Making.{IsFloor};
 ghost use Rattle.rdb_steps.specs.Planning.{ComesNearerWithVersion, IsDue, IsToGo, KeepsWithout, LaysIn};
-ghost use Rattle.rdb_steps.specs.States.{IsKeptSomehow, IsWhole, Keeps};
+ghost use Rattle.rdb_steps.specs.States.{IsWhole};
 ghost use Rattle.rdb_steps.specs.Steps.{OnlyRecord, seat_at};
 ghost use Rattle.rdb_steps.specs.Written.{KeepsCounts};
 
@@ -40,7 +36,6 @@ impl<P: Pages> State<P> {
         ensures whole { IsWhole self.new }
     {
         let alloc = self.transactions.alloc;
-        self.transactions.registry.sound();
         let hand = self.transactions.registry.seat_mut(c);
         logged_once(hand);
         lay_drop(hand, &self.store, &self.memory, class, version, alloc);

@@ -20,6 +20,7 @@ mod grant;
 mod laws;
 mod laying;
 mod moves;
+mod own_drop;
 mod plan_laws;
 mod rooms;
 mod state;
