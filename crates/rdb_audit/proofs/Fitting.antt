@@ -18,8 +18,8 @@ use Rattle.rdb_journal.specs.Lines.{steps_of, StepNamesExist, NamesExist}
 use Rattle.rdb_audit.specs.declared.progress.Progress.{Progress}
 use Rattle.rdb_audit.specs.declared.progress.ReportLine.{ReportLine}
 use Rattle.rdb_audit.specs.declared.progress.ReportLine.TheVariants as says
-use Rattle.rdb_audit.specs.Printed.{kind_of}
-use Rattle.rdb_audit.proofs.StepLemmas.{operation_names, reply_names}
+use Rattle.rdb_report_lines.specs.Printed.{kind_of}
+use Rattle.rdb_report_lines.proofs.StepLemmas.{operation_names, reply_names}
 use Rattle.rdb_audit.specs.Grammar.{lines, start, entries, MayStand, longer, with_step, after, IsLine, Runs, IsReport}
 
 -- a story's operations fit a transaction of this kind, are no more than this, and name what is there

@@ -1,16 +1,6 @@
-pub mod Joined
 pub mod TextLines
 pub mod Running
 pub mod Fitting
-pub mod FrontLemmas
-pub mod NameLemmas
-pub mod HeadLemmas
-pub mod ValueLemmas
-pub mod OperationLemmas
-pub mod StepLemmas
-pub mod TextForms
-pub mod IdLemmas
-pub mod ReplyLemmas
 pub mod LineLemmas
 pub mod LastLine
 pub mod VerdictLemmas

@@ -1,6 +1,5 @@
 -- What a line can say, by how it begins.
 use Rattle.std.proofs.Common.{◌≡◌, ◌≢◌, ℕ, ◌+◌, Bool, true, false, List, ◌++◌, get_or, codes, decimal, refl, sym, ap, ◌∙◌, arith}
-use Rattle.std.specs.Bool.{OnTrue, OnFalse}
 use Rattle.std.proofs.lemmas.Bool.{false≢true}
 use Rattle.rdb_base.specs.declared.operation.Op.{Op}
 use Rattle.rdb_base.specs.declared.operation.Reply.{Reply}
@@ -20,14 +19,6 @@ use Rattle.rdb_audit.specs.declared.progress.Progress.{Progress}
 use Rattle.rdb_audit.specs.declared.progress.ReportLine.{ReportLine}
 use Rattle.rdb_audit.specs.declared.progress.ReportLine.TheVariants as says
 use Rattle.rdb_audit.specs.Grammar.{entries, is_last, text_of}
-
-pub on_true : {P : Type 0} (b : Bool) → b ≡ true → OnTrue b P → P
-on_true true e h = h
-on_true false e h = absurd (false≢true e)
-
-pub on_false : {P : Type 0} (b : Bool) → b ≡ false → OnFalse b P → P
-on_false true e h = absurd (false≢true (sym e))
-on_false false e h = h
 
 head_not_indented : (e : Entry) (r : List ℕ) → head_line e ≡ codes "  " ++ r → ⊥
 head_not_indented (entry.Commit story commit) r e = absurd (let other : 99 ≡ 32 = ap (λ (t : List ℕ). get_or t 0 0) e in omega arith)

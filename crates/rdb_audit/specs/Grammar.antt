@@ -17,7 +17,7 @@ use Rattle.rdb_audit.specs.declared.progress.Progress.{Progress}
 use Rattle.rdb_journal.specs.Lines.{head_line, operation_line, steps_of}
 use Rattle.rdb_journal.specs.Endings.{client_line, note_line}
 use Rattle.rdb_journal.specs.Report.{totals_line}
-use Rattle.rdb_audit.specs.Printed.{IsNarrow, IsPrintableHead, IsPrintableStep, IsPrintableEnd, IsPrintableNote, kind_of}
+use Rattle.rdb_report_lines.specs.Printed.{IsNarrow, IsPrintableHead, IsPrintableStep, IsPrintableEnd, IsPrintableNote, kind_of}
 
 -- the lines of a text, each with the line feed that ends it; the last may have none
 unfoldable pub lines : List ℕ → List (List ℕ)

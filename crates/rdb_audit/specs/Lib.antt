@@ -1,4 +1,2 @@
-pub mod Printed
-pub mod Heads
 pub mod Grammar
 pub mod Verdicts

@@ -1,11 +1,11 @@
 //! How far a report has come: the entries above a line, how many clients have had their lines, and which section stands. It touches
 //! nothing but itself.
 
-ghost use Rattle.std.specs.Prelude.{◌≡◌, ◌≢◌, None, OnOk, IfOk};
+ghost use Rattle.std.specs.Prelude.{◌≡◌, ◌≢◌, None, OnOk, OnErr, IfOk};
 ghost use Rattle.std.specs.Bool.{OnTrue, OnFalse};
 ghost use Rattle.rdb_audit.specs.declared.progress.Section.TheVariants as section;
 ghost use Rattle.rdb_audit.specs.Grammar.{start, entries, open_kind, with_step, after, CountsOn};
-ghost use Rattle.rdb_audit.specs.Printed.{kind_of};
+ghost use Rattle.rdb_report_lines.specs.Printed.{kind_of};
 
 use rdb_base::identity::Kind;
 use rdb_base::journal::{Entries, Entry};
@@ -109,14 +109,16 @@ impl Progress {
         }
     }
 
-    /// Puts the last entry to those before it: no further operation follows.
+    /// Puts the last entry to those before it: no further operation follows. Where memory is wanting, the last entry is lost, and nothing
+    /// else changes.
     pub fn close(&mut self) -> Result<(), NoMemory>
-        ensures { OnOk result (self.new ≡ record {
+        ensures ok { OnOk result (self.new ≡ record {
           journal = entries self.old;
           last = None;
           clients = self.old.clients;
           section = self.old.section;
         }) }
+        ensures err { OnErr result (self.new ≡ record self.old { last = None }) }
     {
         if let Some(entry) = self.last.take() {
             self.journal.push(entry)?;
@@ -124,10 +126,11 @@ impl Progress {
         Ok(())
     }
 
-    /// Goes on behind a line.
+    /// Goes on behind a line. Where memory is wanting, the line and the last entry are lost, and nothing else changes.
     pub fn take(&mut self, line: ReportLine) -> Result<(), NoMemory>
         requires { CountsOn self.old line }
-        ensures { OnOk result (self.new ≡ after self.old line) }
+        ensures ok { OnOk result (self.new ≡ after self.old line) }
+        ensures err { OnErr result (self.new ≡ record self.old { last = None }) }
     {
         match line {
             ReportLine::Entry(entry) => {

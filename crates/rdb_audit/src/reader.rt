@@ -88,7 +88,8 @@ fn is_totals(alloc: Global, journal: &[Entry], line: &[u8]) -> Result<bool, NoMe
 fn take_totals(alloc: Global, progress: &mut Progress, line: &[u8]) -> Result<bool, NoMemory>
     ensures took { IfOk result (λ b. OnTrue b ((line.now ≡ totals_line (entries progress.old)) × (progress.old.section ≢ section.Over)
         × (progress.new ≡ after progress.old says.Totals))) }
-    ensures only { IfOk result (λ b. OnFalse b (line.now ≡ totals_line (entries progress.old) → progress.old.section ≡ section.Over)) }
+    ensures only { IfOk result (λ b. OnFalse b (line.now ≡ totals_line (entries progress.old)
+        → progress.old.section ≡ section.Over)) }
 {
     if progress.is_over() {
         return Ok(false);

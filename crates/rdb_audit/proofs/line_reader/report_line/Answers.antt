@@ -1,7 +1,8 @@
 use Rattle.std.proofs.Common.{◌≡◌, Some, IfOk, sym, ◌∙◌}
 use Rattle.rdb_audit.specs.declared.progress.ReportLine.{ReportLine}
 use Rattle.rdb_audit.specs.Grammar.{text_of, MayStand}
-use Rattle.rdb_audit.proofs.LineLemmas.{on_true, on_false, indented_says, client_says, other_says}
+use Rattle.rdb_report_lines.proofs.Branches.{on_true, on_false}
+use Rattle.rdb_audit.proofs.LineLemmas.{indented_says, client_says, other_says}
 use Rattle.rdb_audit.proofs.line_reader.report_line.Goals as goal
 
 pub returns-then-begins-clause-exact : goal.returns-then-begins-clause-exact

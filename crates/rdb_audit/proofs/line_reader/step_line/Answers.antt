@@ -6,7 +6,7 @@ use Rattle.rdb_base.specs.declared.operation.Op.{Op}
 use Rattle.rdb_base.specs.declared.operation.Reply.{Reply}
 use Rattle.rdb_journal.specs.Lines.{operation_line}
 use Rattle.rdb_audit.specs.declared.progress.ReportLine.TheVariants as says
-use Rattle.rdb_audit.specs.Printed.{IsPrintableStep}
+use Rattle.rdb_report_lines.specs.Printed.{IsPrintableStep}
 use Rattle.rdb_audit.proofs.line_reader.step_line.Goals as goal
 
 pub returns-in_default-2-clause-exact : goal.returns-in_default-2-clause-exact

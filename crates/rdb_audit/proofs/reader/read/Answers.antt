@@ -34,12 +34,12 @@ returns-then-not-is_over-clause-only c = λ journal s. no_unended c.args.schema.
 
 pub returns-clause-read : goal.returns-clause-read
 returns-clause-read c =
-    subst (IsReport c.args.schema.now c.args.report.now) (sym (ap (λ (p : Progress). p.journal) c.in_ok-close.ensures))
+    subst (IsReport c.args.schema.now c.args.report.now) (sym (ap (λ (p : Progress). p.journal) c.in_ok-close.ensures.ok))
     (is_report c.args.schema.now c.args.report.now c.loop-line.rest.now c.loop-line.progress c.loop-line.number c.loop-line.invariant.run c.in_default.ensures.none (is_over c.loop-line.progress c.is_over.result c.if-not-is_over.false c.is_over.ensures.yes))
 
 pub returns-clause-only : goal.returns-clause-only
 returns-clause-only c = λ journal s.
-    ap (λ (p : Progress). p.journal) c.in_ok-close.ensures
+    ap (λ (p : Progress). p.journal) c.in_ok-close.ensures.ok
     ∙ only_report c.args.schema.now c.args.report.now c.loop-line.rest.now c.loop-line.progress journal c.loop-line.invariant.on c.in_default.ensures.none s
 
 pub returns-clause-fits : goal.returns-clause-fits

@@ -1,0 +1,11 @@
+pub mod Joined
+pub mod Branches
+pub mod FrontLemmas
+pub mod NameLemmas
+pub mod HeadLemmas
+pub mod ValueLemmas
+pub mod OperationLemmas
+pub mod StepLemmas
+pub mod TextForms
+pub mod IdLemmas
+pub mod ReplyLemmas
