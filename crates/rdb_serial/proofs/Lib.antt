@@ -14,3 +14,4 @@ pub mod PlanMoves
 pub mod GivingMoves
 pub mod SettlingMoves
 pub mod StampMoves
+pub mod MarkMoves

@@ -8,19 +8,21 @@ use Rattle.rdb_base.specs.declared.identity.Manager.TheVariants as managers
 use Rattle.rdb_base.specs.declared.operation.Op.{Op}
 use Rattle.rdb_base.specs.declared.operation.Reply.{Reply}
 use Rattle.rdb_base.specs.declared.journal.Cause.{Cause}
+use Rattle.rdb_base.specs.declared.journal.Story.{Story}
 use Rattle.rdb_base.specs.declared.journal.Entry.{Entry}
 use Rattle.rdb_base.specs.declared.journal.Entry.TheVariants as entry
 use Rattle.rdb_pages.specs.declared.cell.CellRef.{CellRef}
 use Rattle.rdb_schema.specs.declared.schema.Schema.{Schema}
 use Rattle.rdb_registry.specs.declared.hand.Work.{Work}
 use Rattle.rdb_registry.specs.declared.seat.Transaction.{Transaction}
-use Rattle.rdb_registry.specs.Seats.{beginning}
+use Rattle.rdb_registry.specs.Seats.{beginning, marked}
 use Rattle.rdb_model.specs.Answer.{answer}
 use Rattle.rdb_model.specs.Fits.{Fits}
 use Rattle.rdb_model.specs.Journal.{commits}
 use Rattle.rdb_model.specs.Touch.{written_by}
+use Rattle.rdb_history.specs.RowTouch.{IsUntouched}
 use Rattle.rdb_shown.specs.Changes.{DropsOwn, DropsGarbage, Stamps, HasNone}
-use Rattle.rdb_serial.specs.Progress.{Progress, tx_of, holds, is_live, so_far, story_with, marks_of}
+use Rattle.rdb_serial.specs.Progress.{Progress, Course, tx_of, holds, is_live, so_far, story_with, marks_of}
 use Rattle.rdb_serial.specs.Histories.{History, scene_of, shown_to, TakesOver, AreSameIn, IsFloor, AreHeldOnce}
 use Rattle.rdb_serial.specs.Serial.{IsCauseOf, IsUnrefused}
 
@@ -245,6 +247,43 @@ pub record EndsRolledBack (before after : History) (slot : ℕ) : Type 0 where
   pub cause : was.cause ≡ Some why
   pub rest : IsAtRest was
   pub enters : Enters before after slot (Some was) (Some (ended latches was)) (entry.Abort (story_with was transaction was.done) why)
+
+-- no other connection has an open transaction
+abbrev pub IsAlone : Course → ℕ → Type 0
+IsAlone course slot = (other : ℕ) (p : Progress) (t : Transaction) → other ≢ slot → course other ≡ Some p → p.transaction ≡ Some t → ⊥
+
+-- What a mark asks where many may write: no commit above its snapshot touches the story, and the connection holds no latch.
+pub record MayMarkAmongMany (schema : Schema) (h : History) (p : Progress) (t : Transaction) : Type 0 where
+  pub untouched : IsUntouched schema h.journal (story_with p t p.done)
+  pub latches : p.latches ≡ 0
+
+-- What it asks of a single writer: it holds the latch of each class, and nobody else has an open transaction.
+pub record MayMarkAlone (h : History) (slot : ℕ) (p : Progress) : Type 0 where
+  pub alone : IsAlone h.course slot
+  pub latched : (class : ℕ) → class < length h.settled → holds p.latches class ≡ true
+
+-- the entry of a story that is the next commit
+abbrev pub next_commit : List Entry → Story → Entry
+next_commit journal story = entry.Commit story (commits journal + 1)
+
+-- the progress of a connection whose transaction is marked
+abbrev pub marks : ℕ → Progress → Transaction → Progress
+marks commit p t = record p { transaction = Some (marked commit t); done = [] }
+
+-- A transaction is marked as the next commit, and its story stands in the journal; what it aims at in its classes is settled.
+pub record Marks (schema : Schema) (manager : Manager) (before after : History) (slot : ℕ) : Type 0 where
+  pub was : Progress
+  pub transaction : Transaction
+  pub free : IsFreeOf was transaction
+  pub writes : transaction.kind ≡ kind.ReadWrite
+  pub plans : was.plans ≡ false
+  pub turns : Turns before after slot (Some was) (Some (marks (commits before.journal + 1) was transaction))
+  pub entered : after.journal ≡ before.journal ++ next_commit before.journal (story_with was transaction was.done) ∷ []
+  pub drawn : after.drawn ≡ before.drawn
+  pub aimed : after.aimed ≡ before.aimed
+  pub settled : TakesOver was.latches before.settled before.aimed after.settled
+  pub many : manager ≡ managers.Mvcc → MayMarkAmongMany schema before was transaction
+  pub single : manager ≡ managers.Mursiw → MayMarkAlone before slot was
 
 -- A version of a marked transaction is stamped, among the settled ones and among those aimed at.
 pub record StampsVersion (manager : Manager) (before after : History) (slot class id : ℕ) : Type 0 where
