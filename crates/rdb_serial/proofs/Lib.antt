@@ -15,3 +15,7 @@ pub mod GivingMoves
 pub mod SettlingMoves
 pub mod StampMoves
 pub mod MarkMoves
+pub mod EmptyMoves
+pub mod PutLemmas
+pub mod ObjectLemmas
+pub mod OwnPlans
