@@ -61,7 +61,7 @@ only_hand roll c h = record {
 }
 
 -- what is left of an operation in work
-writing_debt : (m : Manager) (s : Seat) (versions pages : ℕ) → s.condemned ≡ None → s.hand.phase ≡ phase.Writing → debt m s versions pages ≡ work_debt s.hand.work s.hand versions pages
+pub writing_debt : (m : Manager) (s : Seat) (versions pages : ℕ) → s.condemned ≡ None → s.hand.phase ≡ phase.Writing → debt m s versions pages ≡ work_debt s.hand.work s.hand versions pages
 writing_debt m s versions pages live writing = λ i. cond (is_some (live i)) (repair_debt m s) (phase_debt m s (writing i) versions pages)
 
 module _ {P : Type 0} (s : State P) (c : ConnId) (class : ℕ) (whole : IsWhole s) (seat : Seat) (held : seat_of s.transactions.registry.seats c ≡ Some seat) (due : IsDue class seat) (settled aimed : Versions) (kept : Keeps s settled aimed) where
@@ -100,6 +100,28 @@ module _ {P : Type 0} (s : State P) (c : ConnId) (class : ℕ) (whole : IsWhole 
 
   pub due_whatever : (Is : List Object → Type 0) → Is (objects_in aimed class) → Whatever (class_in s.store class) (image_of s.memory) (class_of s.memory) Is
   due_whatever = whatever_held s.schema s.transactions.manager s.memory s.transactions.registry settled aimed c.slot seat whole.lawful kept.one_holder kept.agrees at due.plan (inl speaks) s.store whole.store class within latch
+
+  pub due_at : seat_in s.transactions.registry.seats c.slot ≡ Some seat
+  due_at = at
+
+  pub due_writing : IsWriting s.transactions.manager (length s.schema.classes) seat
+  due_writing = writing
+
+  pub due_work : (w : Work) × ((seat.hand.work ≡ Some w) × (class_named w.op ≡ class))
+  due_work = in_work
+
+  pub due_opened : (t : Transaction) × ((seat.transaction ≡ Some t) × (t.kind ≡ kind.ReadWrite))
+  due_opened = opened
+
+  pub due_unput : in_work.0.puts ≡ None
+  due_unput = unput
+
+  pub due_latch : HoldsLatch seat class
+  due_latch = latch
+
+  -- a plan that leads to another chain has a cell
+  pub due_cell : (pairs : List Pair) (id : ℕ) (chain : List Version) → LeadsTo s.schema (ground_of s) pairs class id (chain_in aimed class id) chain → chain ≢ chain_in aimed class id → ¬ (pairs ≡ [])
+  due_cell = has_cell s.schema s.transactions.manager s.memory s.transactions.registry settled aimed c.slot seat whole.lawful kept.one_holder kept.agrees at due.plan (inl speaks) s.store whole.store class within latch
 
   pub due_room : seat.hand.plan.room ≡ max_plan
   due_room = furnished.plan

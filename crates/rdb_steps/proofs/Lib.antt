@@ -49,3 +49,7 @@ pub mod ClassHolds
 pub mod PlacesLemmas
 pub mod DuePlans
 pub mod OwnDropPlans
+pub mod ClaimLemmas
+pub mod DrawnLemmas
+pub mod OwnPlans
+pub mod OwnWhole

@@ -172,7 +172,7 @@ fewer_puts n false true follows had = omega (arith, had)
 fewer_puts n false false follows had = had
 
 -- a record plans no more than a transaction may
-planned_few : (schema : Schema) (m : Manager) (cells : ℕ) (s : Seat) → IsFurnished schema m cells s → planned_by s ≤ MAX_OPERATIONS
+pub planned_few : (schema : Schema) (m : Manager) (cells : ℕ) (s : Seat) → IsFurnished schema m cells s → planned_by s ≤ MAX_OPERATIONS
 planned_few schema m cells s furnished = go (not (is_unmarked s)) (is_some s.condemned) (is_rolling_back s.hand.phase)
   where
     so_far : planned_so_far s ≤ MAX_OPERATIONS

@@ -124,9 +124,10 @@ abbrev pub spending : Roll → ℕ → ℕ → ℕ → Roll
 spending roll slot class need = record roll { spent = with_spent roll.spent slot class (spent_by roll.spent slot class + need) }
 
 -- The own plan of a connection's operation in work is made, which puts a version: a serial is drawn, and an id where the operation makes an
--- object; the claim is spent; and the plan is laid in the connection's hand. Nothing else changes.
+-- object; the claim is spent; and the plan, which has a cell, is laid in the connection's hand. Nothing else changes.
 pub record MakesOwnPlan {P : Type 0} (before after : State P) (c : ConnId) (op : Op) (class need : ℕ) (header : CellRef) : Type 0 where
   pub made : Record
+  pub some : made.pairs ≢ []
   pub transactions :
       after.transactions
       ≡ record before.transactions { registry = with_hand_of (spending before.transactions.registry c.slot class need) c
@@ -152,3 +153,10 @@ WorksAt s c P = Has s.transactions c (λ seat. IsSomeAnd seat.hand.work (P seat)
 abbrev pub aimed_at_put : {P : Type 0} → State P → Seat → Transaction → Op → CellRef → Versions → Versions
 aimed_at_put s seat t op header aimed = with_put aimed (class_named op) (id_to_write s.counters.ids.items op) (tx_of seat t)
     (version_put header.number (s.counters.serials + 1) (tx_of seat t) (with_id op (id_to_write s.counters.ids.items op)))
+
+-- whatever versions are settled and aimed at before: an operation's version comes first in its object's chain, where the object that it puts
+-- or deletes has one, and the settled ones stay
+abbrev pub KeepsWithPut : {P : Type 0} → State P → State P → ConnId → CellRef → Type 0
+KeepsWithPut before after c header =
+    (settled aimed : Versions) → Keeps before settled aimed → WorksAt before c (λ seat work. HasObject aimed work.op
+    → (t : Transaction) → seat.transaction ≡ Some t → Keeps after settled (aimed_at_put before seat t work.op header aimed))

@@ -21,6 +21,7 @@ mod laws;
 mod laying;
 mod moves;
 mod own_drop;
+mod own_plan;
 mod plan_laws;
 mod rooms;
 mod state;
