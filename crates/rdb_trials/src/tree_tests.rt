@@ -1,10 +1,13 @@
-//! A tree index beside a sorted list, and against a checker of its shape.
-ghost use Rattle.std.specs.Prelude.{◌≡◌, ◌<◌, ℕ, List, length};
+//! A tree index beside a sorted list, and against a checker of its shape. How often keys are compared grows with the height.
+ghost use Rattle.std.specs.Prelude.{◌≡◌, ◌<◌, ◌≤◌, ℕ, List, length, take, drop};
 ghost use Rattle.rdb_pages.specs.declared.cell.CellRef.{CellRef as RefValue};
 ghost use Rattle.rdb_cells.specs.Index.{Lists};
 ghost use Rattle.rdb_cells.specs.Memory.{memory_image};
+ghost use Rattle.rdb_cells.specs.Parts.{tree_part};
 ghost use Rattle.rdb_tree.specs.Nature.{tree_nature};
+ghost use Rattle.rdb_trials.specs.Filled.{IsFilled};
 ghost use Rattle.rdb_trials.specs.KeyTable.{table_meaning};
+ghost use Rattle.rdb_trials.specs.Kept.{empty_plan};
 
 use crate::filling::{Claim, checked, empty_head_at, put_some, take_some};
 use crate::key_table::KeyTable;
@@ -31,11 +34,27 @@ use std::test::*;
 /// The most comparisons of a seek: seven on each of the five levels that a tree of 1,002 versions has at most.
 const SEEK_STEPS: usize = 35;
 
-/// The least keys of a node that isn't the root.
+/// The least keys of a node that isn't the root, and the most of a node.
 const LEAST_KEYS: usize = 3;
+
+const MOST_KEYS: usize = 7;
 
 /// More levels than any tree has here.
 const LEVELS: u32 = 6;
+
+/// The most levels that a tree of so many versions has. With one level it has one version at least, and with each level more
+/// four times as many and three.
+fn most_levels(versions: usize) -> usize {
+    let mut levels = 0usize;
+    let mut least = 1usize;
+    for _ in 0..LEVELS {
+        if least <= versions {
+            levels = levels.saturating_add(1);
+            least = least.saturating_mul(4).saturating_add(LEAST_KEYS);
+        }
+    }
+    levels
+}
 
 /// What a part of a tree has.
 #[derive(Clone, Copy)]
@@ -134,6 +153,22 @@ fn seeks<L: Ledger>(
     assert!(rt; keys.compared.get() <= SEEK_STEPS, "steps down");
 }
 
+/// Stops the test where more was compared for `equal` than all keys of two nodes of each level, and each version found.
+fn equal_compares_few(rt: &impl Abort, keys: &KeyTable, versions: usize, found: usize) {
+    let a_level = MOST_KEYS.saturating_mul(2);
+    let most = most_levels(versions)
+        .saturating_mul(a_level)
+        .saturating_add(found);
+    assert!(rt; keys.compared.get() <= most, "equal compares more than {most}");
+}
+
+/// Stops the test where more was compared for so many changes than, for each, all keys of one node of each level.
+fn changes_compare_few(rt: &impl Abort, keys: &KeyTable, versions: usize, changes: usize) {
+    let each = most_levels(versions).saturating_mul(MOST_KEYS);
+    let most = each.saturating_mul(changes);
+    assert!(rt; keys.compared.get() <= most, "changes compare more than {most}");
+}
+
 /// Compares the look-ups by the key and the id of an entry with the sorted entries.
 fn lookups_at<L: Ledger>(
     rt: &impl Abort,
@@ -158,9 +193,11 @@ fn lookups_at<L: Ledger>(
         version_of(sorted, place - 1)
     };
     let key = key_of(tree.alloc, fields, entry.key)?;
+    keys.compared.set(0);
     let equal = tree.equal(cells, keys, &key, steps)?;
     let wanted = with_key(tree.alloc, sorted, entry.key)?;
     same_versions(rt, equal.as_slice(), wanted.as_slice());
+    equal_compares_few(rt, keys, sorted.len(), wanted.len());
     let at = Place::At { key, id: entry.id };
     seeks(rt, cells, keys, tree, &at, (above, below), steps);
     // no version has the next id
@@ -237,6 +274,61 @@ fn compare(
     )
 }
 
+/// Puts the versions from a place on up to another into a tree that lists those before, and counts the comparisons.
+fn put_counted(
+    rt: &impl Abort,
+    tree: &Tree,
+    keys: &KeyTable,
+    claim: Claim,
+    cells: &mut MemoryCells,
+    versions: &[CellRef],
+    places: (usize, usize),
+    plan: Plan,
+) -> Plan
+    requires class { claim.class ≡ tree.now.class }
+    requires part { claim.cells ≡ tree_part }
+    requires places { (places.0 ≤ places.1) × (places.1 ≤ length versions.now) }
+    requires plan { plan ≡ empty_plan }
+    requires filled { IsFilled (tree_nature tree.now.class tree.now.head.number) (table_meaning keys.now.rows)
+        (memory_image cells.old) versions.now (take places.0 versions.now) }
+    ensures filled { IsFilled (tree_nature tree.now.class tree.now.head.number) (table_meaning keys.now.rows)
+        (memory_image cells.new) versions.now (take places.1 versions.now) }
+    ensures plan { result ≡ empty_plan }
+{
+    let (from, to) = places;
+    keys.compared.set(0);
+    let plan = put_some(rt, tree, keys, claim, cells, versions, places, plan);
+    changes_compare_few(rt, keys, to, to - from);
+    plan
+}
+
+/// Takes the versions from a place on up to another out of a tree that lists those from that place on, and counts the comparisons.
+fn take_counted(
+    rt: &impl Abort,
+    tree: &Tree,
+    keys: &KeyTable,
+    claim: Claim,
+    cells: &mut MemoryCells,
+    versions: &[CellRef],
+    places: (usize, usize),
+    plan: Plan,
+) -> Plan
+    requires class { claim.class ≡ tree.now.class }
+    requires places { (places.0 ≤ places.1) × (places.1 ≤ length versions.now) }
+    requires plan { plan ≡ empty_plan }
+    requires filled { IsFilled (tree_nature tree.now.class tree.now.head.number) (table_meaning keys.now.rows)
+        (memory_image cells.old) versions.now (drop places.0 versions.now) }
+    ensures filled { IsFilled (tree_nature tree.now.class tree.now.head.number) (table_meaning keys.now.rows)
+        (memory_image cells.new) versions.now (drop places.1 versions.now) }
+    ensures plan { result ≡ empty_plan }
+{
+    let (from, to) = places;
+    keys.compared.set(0);
+    let plan = take_some(tree, keys, claim, cells, versions, places, plan);
+    changes_compare_few(rt, keys, versions.len() - from, to - from);
+    plan
+}
+
 /// Puts the versions into an empty tree and takes them out again in the same order, and compares at each hundredth.
 fn fill_and_empty(
     rt: &impl Abort,
@@ -258,14 +350,14 @@ fn fill_and_empty(
     let mut from = 0;
     while from < versions.len() {
         let to = next_stop(from, versions.len());
-        plan = put_some(rt, tree, keys, claim, cells, versions, (from, to), plan);
+        plan = put_counted(rt, tree, keys, claim, cells, versions, (from, to), plan);
         compare(rt, &*cells, keys, tree, fields, &entries[..to])?;
         from = to;
     }
     let mut gone = 0;
     while gone < versions.len() {
         let stop = next_stop(gone, versions.len());
-        plan = take_some(tree, keys, claim, cells, versions, (gone, stop), plan);
+        plan = take_counted(rt, tree, keys, claim, cells, versions, (gone, stop), plan);
         compare(rt, &*cells, keys, tree, fields, &entries[stop..])?;
         gone = stop;
     }
