@@ -44,7 +44,8 @@ pub use plan_laws::{
 };
 pub use rooms::{
     a_condemnation_keeps_rooms, a_connection_that_closes_keeps_rooms,
-    a_connection_that_comes_keeps_rooms, a_mark_keeps_rooms, a_roll_back_that_begins_keeps_rooms,
-    what_is_told_keeps_rooms,
+    a_connection_that_comes_keeps_rooms, a_connection_that_is_repaired_keeps_rooms,
+    a_mark_keeps_rooms, a_roll_back_that_begins_keeps_rooms, a_transaction_that_begins_keeps_rooms,
+    a_transaction_that_ends_keeps_rooms, what_is_told_keeps_rooms,
 };
 pub use state::{Counters, State};
