@@ -5,7 +5,6 @@ use Rattle.std.proofs.lemmas.Bool.Decides.{nat_tests}
 use Rattle.std.proofs.lemmas.List.{ext_get_or}
 use Rattle.std.proofs.lemmas.Option.{slice_get-get_or}
 use Rattle.std.proofs.lemmas.List.Elements.{Contains-push, Contains-push_cases}
-use Rattle.std.proofs.lemmas.List.Folds.{list_any-append}
 use Rattle.std.proofs.lemmas.Nat.Bits.{bit_at-zero}
 use Rattle.rdb_base.specs.declared.identity.Kind.{Kind}
 use Rattle.rdb_base.specs.declared.identity.Kind.TheVariants as kinds
@@ -20,7 +19,7 @@ use Rattle.rdb_base.specs.declared.journal.Entry.TheVariants as entry
 use Rattle.rdb_schema.specs.declared.schema.Schema.{Schema}
 use Rattle.rdb_registry.specs.declared.seat.Transaction.{Transaction}
 use Rattle.rdb_registry.specs.Seats.{marked}
-use Rattle.rdb_sight.specs.Versions.{Versions, Marks as MarksOf, objects_in, shown}
+use Rattle.rdb_sight.specs.Versions.{Versions, objects_in, shown}
 use Rattle.rdb_model.specs.declared.legality.Span.TheVariants as span
 use Rattle.rdb_model.specs.Fits.{AllFit}
 use Rattle.rdb_model.specs.Story.{run}
@@ -56,6 +55,29 @@ use Rattle.rdb_serial.proofs.EntryLemmas.{ended_before, unended_still, ends_othe
 use Rattle.rdb_serial.proofs.EndingMoves.{story_of_none}
 use Rattle.rdb_serial.proofs.PlanMoves.{mark_here}
 use Rattle.rdb_serial.proofs.GivingMoves.{same_made}
+use Rattle.rdb_serial.proofs.ObjectLemmas.{drawn_both}
+
+abbrev its_story : Progress → Transaction → Story
+its_story p t = story_with p t p.done
+
+-- the entry, and the journal with it
+abbrev commit_entry : History → Progress → Transaction → Entry
+commit_entry h p t = next_commit h.journal (its_story p t)
+
+abbrev longer_journal : History → Progress → Transaction → List Entry
+longer_journal h p t = h.journal ++ commit_entry h p t ∷ []
+
+-- the progress of the connection, and the scene, afterwards
+abbrev marks_next : History → Progress → Transaction → Progress
+marks_next h p t = marks (commits h.journal + 1) p t
+
+abbrev marked_scene : History → History → Progress → Transaction → Scene
+marked_scene before after p t = record { journal = longer_journal before p t; marks = marks_of after.course; drawn = before.drawn; settled = after.settled; aimed = before.aimed }
+
+-- by the manager
+by_manager : {A : Type 0} → (manager : Manager) → (manager ≡ managers.Mvcc → A) → (manager ≡ managers.Mursiw → A) → A
+by_manager managers.Mvcc among alone = among refl
+by_manager managers.Mursiw among alone = alone refl
 
 -- no latch is held in none
 no_latch : (latches class : ℕ) → latches ≡ 0 → holds latches class ≡ false
@@ -105,7 +127,7 @@ module _ (schema : Schema) (manager : Manager) (before after : History) (slot : 
   unmarked_tx = mark_here before.course slot move.was move.transaction move.turns.was_there is_there.place move.free.open_one ∙ move.free.unmarked
 
   marking : IsMarked (marks_of before.course) (marks_of after.course) (tx_of move.was move.transaction) (commits before.journal + 1)
-  marking = marks_more before.course after.course slot move.turns.others move.was (marks (commits before.journal + 1) move.was move.transaction) move.transaction (commits before.journal + 1)
+  marking = marks_more before.course after.course slot move.turns.others move.was (marks_next before move.was move.transaction) move.transaction (commits before.journal + 1)
       move.turns.was_there move.turns.is_there is_there.place refl move.free.open_one refl
 
   settled_is : after.settled ≡ view_in (scene_of before) move.was
@@ -130,13 +152,6 @@ module _ (schema : Schema) (manager : Manager) (before after : History) (slot : 
   snapshot_below : move.transaction.snapshot ≤ commits before.journal
   snapshot_below = snapshot_there schema (scene_of before) move.transaction was_open.begun
 
-  by_manager : {A : Type 0} → (manager ≡ managers.Mvcc → A) → (manager ≡ managers.Mursiw → A) → A
-  by_manager {A} among alone = go manager refl
-    where
-      go : (m : Manager) → manager ≡ m → A
-      go managers.Mvcc e = among e
-      go managers.Mursiw e = alone e
-
   -- under a single writer
   module _ (single : manager ≡ managers.Mursiw) where
     sees : (move.transaction.snapshot ≡ commits before.journal) × ShowsCommits schema before.journal (marks_of before.course) (view_in (scene_of before) move.was) (commits before.journal)
@@ -158,19 +173,19 @@ module _ (schema : Schema) (manager : Manager) (before after : History) (slot : 
     view_settled = sym settled_is ∙ settled_same
 
   touches_none : (own : Story) (commit : ℕ) → Contains before.journal (entry.Commit own commit) → move.transaction.snapshot < commit →
-      (operation : ℕ) → touched schema (fold schema before.journal (commit - 1)) (entry.Commit own commit) (story_with move.was move.transaction move.was.done) operation ≡ false
-  touches_none own commit stands unseen operation = by_manager among alone
+      (operation : ℕ) → touched schema (fold schema before.journal (commit - 1)) (entry.Commit own commit) (its_story move.was move.transaction) operation ≡ false
+  touches_none own commit stands unseen operation = by_manager manager among alone
     where
-      among : manager ≡ managers.Mvcc → touched schema (fold schema before.journal (commit - 1)) (entry.Commit own commit) (story_with move.was move.transaction move.was.done) operation ≡ false
-      among e = untouched_is schema before.journal serial.scene.law.numbers serial.scene.law.replies own (story_with move.was move.transaction move.was.done) commit operation kinds.ReadWrite fit (move.many e).untouched stands unseen
+      among : manager ≡ managers.Mvcc → touched schema (fold schema before.journal (commit - 1)) (entry.Commit own commit) (its_story move.was move.transaction) operation ≡ false
+      among e = untouched_is schema before.journal serial.scene.law.numbers serial.scene.law.replies own (its_story move.was move.transaction) commit operation kinds.ReadWrite fit (move.many e).untouched stands unseen
 
-      alone : manager ≡ managers.Mursiw → touched schema (fold schema before.journal (commit - 1)) (entry.Commit own commit) (story_with move.was move.transaction move.was.done) operation ≡ false
+      alone : manager ≡ managers.Mursiw → touched schema (fold schema before.journal (commit - 1)) (entry.Commit own commit) (its_story move.was move.transaction) operation ≡ false
       alone e =
           let all = (sees e).0 in
           let there = (done_is schema before.journal stands.0 own commit serial.scene.law.numbers serial.scene.law.replies (slice_get-get_or before.journal stands.0 (entry.Commit own commit) stands.1 ∙ ap Some stands.2)).0 in
           absurd (omega (arith, all, there, unseen))
 
-  valid : IsValid schema before.journal (story_with move.was move.transaction move.was.done)
+  valid : IsValid schema before.journal (its_story move.was move.transaction)
   valid = record {
     placed = placed schema (scene_of before) move.was move.transaction move.was.done was_open.begun;
     makes_anew = anew;
@@ -180,35 +195,35 @@ module _ (schema : Schema) (manager : Manager) (before after : History) (slot : 
 
   -- the versions that the transaction sees show all commits so far
   current : shown (marks_of before.course) (commits before.journal) None (view_in (scene_of before) move.was) ≡ fold schema before.journal (commits before.journal)
-  current = by_manager
+  current = by_manager manager
       (λ e. ap (shown (marks_of before.course) (commits before.journal) None) (view_settled e) ∙ serial.scene.current)
       (λ e. (sees e).1)
 
   -- and what was settled at its snapshot
   at_snapshot : shown (marks_of before.course) move.transaction.snapshot None (view_in (scene_of before) move.was) ≡ shown (marks_of before.course) move.transaction.snapshot None before.settled
-  at_snapshot = by_manager
+  at_snapshot = by_manager manager
       (λ e. ap (shown (marks_of before.course) move.transaction.snapshot None) (view_settled e))
       (λ e.
       ap (λ (n : ℕ). shown (marks_of before.course) n None (view_in (scene_of before) move.was)) (sees e).0 ∙ (sees e).1
       ∙ sym (ap (λ (n : ℕ). shown (marks_of before.course) n None before.settled) (sees e).0 ∙ serial.scene.current))
 
-  view_marked : AreVersions (before.journal ++ next_commit before.journal (story_with move.was move.transaction move.was.done) ∷ []) (marks_of after.course) (view_in (scene_of before) move.was)
+  view_marked : AreVersions (longer_journal before move.was move.transaction) (marks_of after.course) (view_in (scene_of before) move.was)
   view_marked = marked_kept span.Stretch schema before.journal (marks_of before.course) (marks_of after.course) (view_in (scene_of before) move.was) (tx_of move.was move.transaction)
-      (story_with move.was move.transaction move.was.done) serial.scene.law valid (view_kept move.was) its_work marking
+      (its_story move.was move.transaction) serial.scene.law valid (view_kept move.was) its_work marking
 
-  commits_now : commits (before.journal ++ next_commit before.journal (story_with move.was move.transaction move.was.done) ∷ []) ≡ commits before.journal + 1
-  commits_now = commits_grown before.journal (next_commit before.journal (story_with move.was move.transaction move.was.done) ∷ [])
+  commits_now : commits (longer_journal before move.was move.transaction) ≡ commits before.journal + 1
+  commits_now = commits_grown before.journal (commit_entry before move.was move.transaction ∷ [])
 
   floors : (floor : ℕ) → IsFloor before.journal before.course floor → IsFloor after.journal after.course floor
-  floors = floors_stay before after slot move.was (marks (commits before.journal + 1) move.was move.transaction) move.turns
+  floors = floors_stay before after slot move.was (marks_next before move.was move.transaction) move.turns
       (let now = ap commits move.entered ∙ commits_now in omega (arith, now))
       (λ t open_one. inr (move.transaction, move.free.open_one, let same : marked (commits before.journal + 1) move.transaction ≡ t = (cc) in ap (λ (u : Transaction). u.snapshot) same))
 
   -- what is aimed at is kept
-  aimed_marked : AreVersions (before.journal ++ next_commit before.journal (story_with move.was move.transaction move.was.done) ∷ []) (marks_of after.course) before.aimed
-  aimed_marked = by_manager among (λ e. subst (AreVersions (before.journal ++ next_commit before.journal (story_with move.was move.transaction move.was.done) ∷ []) (marks_of after.course)) (view_aimed e) view_marked)
+  aimed_marked : AreVersions (longer_journal before move.was move.transaction) (marks_of after.course) before.aimed
+  aimed_marked = by_manager manager among (λ e. subst (AreVersions (longer_journal before move.was move.transaction) (marks_of after.course)) (view_aimed e) view_marked)
     where
-      among : manager ≡ managers.Mvcc → AreVersions (before.journal ++ next_commit before.journal (story_with move.was move.transaction move.was.done) ∷ []) (marks_of after.course) before.aimed
+      among : manager ≡ managers.Mvcc → AreVersions (longer_journal before move.was move.transaction) (marks_of after.course) before.aimed
       among e = subst (λ (j : List Entry). AreVersions j (marks_of after.course) before.aimed) move.entered
           (kept_by_class after.journal (marks_of after.course) before.aimed (λ class. go class (serial.agrees e class)))
         where
@@ -241,42 +256,35 @@ module _ (schema : Schema) (manager : Manager) (before after : History) (slot : 
                   marking.others (tx_of planned.progress planned.transaction) (apart_txs planned.progress move.was planned.transaction move.transaction (λ same. apart (sym its_place ∙ same ∙ is_there.place)))
                   ∙ mark_here before.course planned.slot planned.progress planned.transaction planned.there its_place planned.open_one ∙ planned.unmarked
 
-  is_scene : IsScene schema (record { journal = before.journal ++ next_commit before.journal (story_with move.was move.transaction move.was.done) ∷ []; marks = marks_of after.course; drawn = before.drawn; settled = after.settled; aimed = before.aimed })
+  is_scene : IsScene schema (marked_scene before after move.was move.transaction)
   is_scene = record {
-    law = commit_keeps span.Stretch schema before.journal (story_with move.was move.transaction move.was.done) serial.scene.law (was_open.unended move.free.unmarked) valid;
-    aborts = holds_with (IsAbortAllowed schema) before.journal (next_commit before.journal (story_with move.was move.transaction move.was.done)) serial.scene.aborts tt;
-    reads = λ story stands. read story (Contains-push_cases before.journal (next_commit before.journal (story_with move.was move.transaction move.was.done)) (entry.Read story) stands);
-    drawn = λ class id made. drawn_all (class, id) (sym (ap (λ (l : List (ℕ × ℕ)). was_made l (class, id)) (made_more before.journal (next_commit before.journal (story_with move.was move.transaction move.was.done)))) ∙ made);
-    settled = subst (AreVersions (before.journal ++ next_commit before.journal (story_with move.was move.transaction move.was.done) ∷ []) (marks_of after.course)) (sym settled_is) view_marked;
+    law = commit_keeps span.Stretch schema before.journal (its_story move.was move.transaction) serial.scene.law (was_open.unended move.free.unmarked) valid;
+    aborts = holds_with (IsAbortAllowed schema) before.journal (commit_entry before move.was move.transaction) serial.scene.aborts tt;
+    reads = λ story stands. read story (Contains-push_cases before.journal (commit_entry before move.was move.transaction) (entry.Read story) stands);
+    drawn = subst (AreDrawn before.drawn) (sym (made_more before.journal (commit_entry before move.was move.transaction)))
+        (drawn_both before.drawn (made_before before.journal) (made_in move.was.done) serial.scene.drawn (subst (λ (d : List (Op × Reply)). AreDrawn before.drawn (made_in d)) done_is_all is_there.drawn));
+    settled = subst (AreVersions (longer_journal before move.was move.transaction) (marks_of after.course)) (sym settled_is) view_marked;
     aimed = aimed_marked;
     classes = move.settled.count ∙ serial.scene.classes;
     classes_aimed = serial.scene.classes_aimed;
     current =
         ap (λ (n : ℕ). shown (marks_of after.course) n None after.settled) commits_now
         ∙ ap (shown (marks_of after.course) (commits before.journal + 1) None) settled_is
-        ∙ commit_shown span.Stretch schema before.journal (marks_of before.course) (marks_of after.course) (view_in (scene_of before) move.was) (tx_of move.was move.transaction) (story_with move.was move.transaction move.was.done)
+        ∙ commit_shown span.Stretch schema before.journal (marks_of before.course) (marks_of after.course) (view_in (scene_of before) move.was) (tx_of move.was move.transaction) (its_story move.was move.transaction)
         serial.scene.law (was_open.unended move.free.unmarked) valid (view_kept move.was) its_work marking current
-        ∙ sym (ap (λ (n : ℕ). fold schema (before.journal ++ next_commit before.journal (story_with move.was move.transaction move.was.done) ∷ []) n) commits_now);
+        ∙ sym (ap (λ (n : ℕ). fold schema (longer_journal before move.was move.transaction) n) commits_now);
   }
     where
-      read : (story : Story) → Contains before.journal (entry.Read story) ⊎ (next_commit before.journal (story_with move.was move.transaction move.was.done) ≡ entry.Read story) → AllFit schema kinds.ReadOnly story.done
+      read : (story : Story) → Contains before.journal (entry.Read story) ⊎ (commit_entry before move.was move.transaction ≡ entry.Read story) → AllFit schema kinds.ReadOnly story.done
       read story (inl stands) = serial.scene.reads story stands
       read story (inr same) = absurd (cc)
-
-      drawn_all : (object : ℕ × ℕ) → was_made (made_before before.journal ++ made_in move.was.done) object ≡ true → object.1 ≤ slice_index before.drawn object.0
-      drawn_all object made = go (was_made (made_before before.journal) object) refl (was_made (made_in move.was.done) object) refl (sym (list_any-append (λ (m : ℕ × ℕ). (m.0 == object.0) && (m.1 == object.1)) (made_before before.journal) (made_in move.was.done)) ∙ made)
-        where
-          go : (a : Bool) → was_made (made_before before.journal) object ≡ a → (b : Bool) → was_made (made_in move.was.done) object ≡ b → (a || b) ≡ true → object.1 ≤ slice_index before.drawn object.0
-          go true e b f h = serial.scene.drawn object.0 object.1 e
-          go false e true f h = is_there.drawn object.0 object.1 (ap (λ (d : List (Op × Reply)). was_made (made_in d) object) done_is_all ∙ f)
-          go false e false f h = (cc)
 
   -- another connection, which has an open transaction among many alone
   carries_other : (other : ℕ) (q : Progress) → other ≢ slot → q.conn.slot ≡ other → before.course other ≡ Some q → ((t : Transaction) → q.transaction ≡ Some t → manager ≡ managers.Mvcc) →
       Carries schema manager (scene_of before)
-      (record { journal = before.journal ++ next_commit before.journal (story_with move.was move.transaction move.was.done) ∷ []; marks = marks_of after.course; drawn = before.drawn; settled = after.settled; aimed = before.aimed }) other q
+      (marked_scene before after move.was move.transaction) other q
   carries_other other q differs place there among = record {
-    more = next_commit before.journal (story_with move.was move.transaction move.was.done) ∷ [];
+    more = commit_entry before move.was move.transaction ∷ [];
     journal = refl;
     shows = λ t open_one begun.
         ap (shown (marks_of after.course) t.snapshot None) (settled_same (among t open_one))
@@ -290,13 +298,13 @@ module _ (schema : Schema) (manager : Manager) (before after : History) (slot : 
         subst (λ (vs : Versions). IsWork (marks_of after.course) vs (tx_of q t) t.snapshot (so_far q)) (sym (same_view (among t open_one)))
         (marked_work before.journal (marks_of before.course) (marks_of after.course) (view_in (scene_of before) q) (tx_of move.was move.transaction) (tx_of q t) t.snapshot (so_far q) marking (apart t) (snapshot_there schema (scene_of before) t begun) work);
     sees_all = λ t open_one begun unmarked live sees_it single writes. let both : managers.Mvcc ≡ managers.Mursiw = sym (among t open_one) ∙ single in absurd (cc);
-    anew = λ its_anew. subst (λ (made : List (ℕ × ℕ)). MakesAnew made (so_far q)) (sym (made_more before.journal (next_commit before.journal (story_with move.was move.transaction move.was.done))))
+    anew = λ its_anew. subst (λ (made : List (ℕ × ℕ)). MakesAnew made (so_far q)) (sym (made_more before.journal (commit_entry before move.was move.transaction)))
         (anew_beside (made_before before.journal) (made_in move.was.done) (so_far q) its_anew
         (apart_all (made_in move.was.done) (made_in (so_far q)) (λ object made.
         sym (ap (λ (d : List (Op × Reply)). was_made (made_in d) object) done_is_all) ∙ serial.apart other slot q move.was differs there move.turns.was_there object made)));
     drawn = λ class. omega arith;
-    ended = λ number has. ended_before before.journal (next_commit before.journal (story_with move.was move.transaction move.was.done)) (other, number)
-        (ends_others (next_commit before.journal (story_with move.was move.transaction move.was.done)) move.was.conn.slot move.transaction.number refl other number (λ same. differs (same ∙ is_there.place))) has;
+    ended = λ number has. ended_before before.journal (commit_entry before move.was move.transaction) (other, number)
+        (ends_others (commit_entry before move.was move.transaction) move.was.conn.slot move.transaction.number refl other number (λ same. differs (same ∙ is_there.place))) has;
   }
     where
       apart : (t : Transaction) → tx_of q t ≢ tx_of move.was move.transaction
@@ -307,51 +315,51 @@ module _ (schema : Schema) (manager : Manager) (before after : History) (slot : 
 
   -- the connection itself
   own : IsConnection schema manager
-      (record { journal = before.journal ++ next_commit before.journal (story_with move.was move.transaction move.was.done) ∷ []; marks = marks_of after.course; drawn = before.drawn; settled = after.settled; aimed = before.aimed }) slot
-      (marks (commits before.journal + 1) move.was move.transaction)
+      (marked_scene before after move.was move.transaction) slot
+      (marks_next before move.was move.transaction)
   own = record {
     place = is_there.place;
-    ended = λ number has. go number (ends (slot, number) (next_commit before.journal (story_with move.was move.transaction move.was.done))) refl has;
-    anew = subst (MakesAnew (made_before (before.journal ++ next_commit before.journal (story_with move.was move.transaction move.was.done) ∷ []))) (sym nothing) tt;
+    ended = λ number has. go number (ends (slot, number) (commit_entry before move.was move.transaction)) refl has;
+    anew = subst (MakesAnew (made_before (longer_journal before move.was move.transaction))) (sym nothing) tt;
     drawn = subst (λ (d : List (Op × Reply)). AreDrawn before.drawn (made_in d)) (sym nothing) (λ class id made. absurd (cc));
     open_one = λ u e. subst (IsOpen schema manager
-        (record { journal = before.journal ++ next_commit before.journal (story_with move.was move.transaction move.was.done) ∷ []; marks = marks_of after.course; drawn = before.drawn; settled = after.settled; aimed = before.aimed })
-        (marks (commits before.journal + 1) move.was move.transaction)) (let same : marked (commits before.journal + 1) move.transaction ≡ u = (cc) in same) opened;
+        (marked_scene before after move.was move.transaction)
+        (marks_next before move.was move.transaction)) (let same : marked (commits before.journal + 1) move.transaction ≡ u = (cc) in same) opened;
   }
     where
-      nothing : so_far (marks (commits before.journal + 1) move.was move.transaction) ≡ []
-      nothing = nothing_so_far (marks (commits before.journal + 1) move.was move.transaction) refl move.free.work
+      nothing : so_far (marks_next before move.was move.transaction) ≡ []
+      nothing = nothing_so_far (marks_next before move.was move.transaction) refl move.free.work
 
-      go : (number : ℕ) (b : Bool) → ends (slot, number) (next_commit before.journal (story_with move.was move.transaction move.was.done)) ≡ b →
-          has_ended_since_leave (before.journal ++ next_commit before.journal (story_with move.was move.transaction move.was.done) ∷ []) (slot, number) ≡ true → number ≤ move.was.begun
+      go : (number : ℕ) (b : Bool) → ends (slot, number) (commit_entry before move.was move.transaction) ≡ b →
+          has_ended_since_leave (longer_journal before move.was move.transaction) (slot, number) ≡ true → number ≤ move.was.begun
       go number true f has =
-          let same : move.transaction.number ≡ number = ends_own (next_commit before.journal (story_with move.was move.transaction move.was.done)) move.was.conn.slot move.transaction.number number refl
-              (ap (λ (k : ℕ). ends (k, number) (next_commit before.journal (story_with move.was move.transaction move.was.done))) is_there.place ∙ f) in
+          let same : move.transaction.number ≡ number = ends_own (commit_entry before move.was move.transaction) move.was.conn.slot move.transaction.number number refl
+              (ap (λ (k : ℕ). ends (k, number) (commit_entry before move.was move.transaction)) is_there.place ∙ f) in
           let mine = was_open.number in
           omega (arith, same, mine)
-      go number false f has = is_there.ended number (ended_before before.journal (next_commit before.journal (story_with move.was move.transaction move.was.done)) (slot, number) f has)
+      go number false f has = is_there.ended number (ended_before before.journal (commit_entry before move.was move.transaction) (slot, number) f has)
 
       begun_now : IsBegun schema
-          (record { journal = before.journal ++ next_commit before.journal (story_with move.was move.transaction move.was.done) ∷ []; marks = marks_of after.course; drawn = before.drawn; settled = after.settled; aimed = before.aimed }) move.transaction
+          (marked_scene before after move.was move.transaction) move.transaction
       begun_now = begun_more schema (scene_of before)
-          (record { journal = before.journal ++ next_commit before.journal (story_with move.was move.transaction move.was.done) ∷ []; marks = marks_of after.course; drawn = before.drawn; settled = after.settled; aimed = before.aimed })
-          (next_commit before.journal (story_with move.was move.transaction move.was.done) ∷ []) move.transaction refl
+          (marked_scene before after move.was move.transaction)
+          (commit_entry before move.was move.transaction ∷ []) move.transaction refl
           (ap (shown (marks_of after.course) move.transaction.snapshot None) settled_is
           ∙ earlier_shown before.journal (marks_of before.course) (marks_of after.course) (view_in (scene_of before) move.was) (tx_of move.was move.transaction) move.transaction.snapshot None
           (in_order before.journal (marks_of before.course) (view_in (scene_of before) move.was) (view_kept move.was)) unmarked_tx marking snapshot_below (λ e. (cc))
           ∙ at_snapshot) was_open.begun
 
       opened : IsOpen schema manager
-          (record { journal = before.journal ++ next_commit before.journal (story_with move.was move.transaction move.was.done) ∷ []; marks = marks_of after.course; drawn = before.drawn; settled = after.settled; aimed = before.aimed })
-          (marks (commits before.journal + 1) move.was move.transaction) (marked (commits before.journal + 1) move.transaction)
+          (marked_scene before after move.was move.transaction)
+          (marks_next before move.was move.transaction) (marked (commits before.journal + 1) move.transaction)
       opened = record {
         number = was_open.number;
         begun = record { begun = begun_now.begun; snapshot = begun_now.snapshot; shows = begun_now.shows };
         unended = λ none. absurd (cc);
         committed = λ commit is. (
-          story_with move.was move.transaction move.was.done,
-          subst (λ (n : ℕ). Contains (before.journal ++ next_commit before.journal (story_with move.was move.transaction move.was.done) ∷ []) (entry.Commit (story_with move.was move.transaction move.was.done) n))
-              (let same : commits before.journal + 1 ≡ commit = (cc) in same) (Contains-push before.journal (next_commit before.journal (story_with move.was move.transaction move.was.done))),
+          its_story move.was move.transaction,
+          subst (λ (n : ℕ). Contains (longer_journal before move.was move.transaction) (entry.Commit (its_story move.was move.transaction) n))
+              (let same : commits before.journal + 1 ≡ commit = (cc) in same) (Contains-push before.journal (commit_entry before move.was move.transaction)),
           refl,
           refl,
         );
@@ -359,26 +367,26 @@ module _ (schema : Schema) (manager : Manager) (before after : History) (slot : 
         rolls_back = λ why none cause. absurd (cc);
       }
 
-  scene_now : scene_of after ≡ record { journal = before.journal ++ next_commit before.journal (story_with move.was move.transaction move.was.done) ∷ []; marks = marks_of after.course; drawn = before.drawn; settled = after.settled; aimed = before.aimed }
+  scene_now : scene_of after ≡ marked_scene before after move.was move.transaction
   scene_now = λ i. record { journal = move.entered i; marks = marks_of after.course; drawn = move.drawn i; settled = after.settled; aimed = move.aimed i }
 
   pub marks_it : IsSerial schema manager after
   marks_it =
       turned schema manager before after
-      (record { journal = before.journal ++ next_commit before.journal (story_with move.was move.transaction move.was.done) ∷ []; marks = marks_of after.course; drawn = before.drawn; settled = after.settled; aimed = before.aimed })
-      slot (Some move.was) (Some (marks (commits before.journal + 1) move.was move.transaction)) move.turns scene_now serial is_scene
+      (marked_scene before after move.was move.transaction)
+      slot (Some move.was) (Some (marks_next before move.was move.transaction)) move.turns scene_now serial is_scene
       (λ other q differs there is_other. carried schema manager (scene_of before)
-      (record { journal = before.journal ++ next_commit before.journal (story_with move.was move.transaction move.was.done) ∷ []; marks = marks_of after.course; drawn = before.drawn; settled = after.settled; aimed = before.aimed })
-      other q (carries_other other q differs is_other.place there (λ t open_one. by_manager (λ e. e) (λ e. absurd ((move.single e).alone other q t differs there open_one)))) is_other)
-      (λ other number differs free. unended_still before.journal (next_commit before.journal (story_with move.was move.transaction move.was.done)) (other, number)
-      (ends_others (next_commit before.journal (story_with move.was move.transaction move.was.done)) move.was.conn.slot move.transaction.number refl other number (λ same. differs (same ∙ is_there.place))) free)
+      (marked_scene before after move.was move.transaction)
+      other q (carries_other other q differs is_other.place there (λ t open_one. by_manager manager (λ e. e) (λ e. absurd ((move.single e).alone other q t differs there open_one)))) is_other)
+      (λ other number differs free. unended_still before.journal (commit_entry before move.was move.transaction) (other, number)
+      (ends_others (commit_entry before move.was move.transaction) move.was.conn.slot move.transaction.number refl other number (λ same. differs (same ∙ is_there.place))) free)
       own
       (apart_turned before.course after.course slot move.turns.others
-      (same_made before.course after.course slot move.was (marks (commits before.journal + 1) move.was move.transaction) move.turns.was_there move.turns.is_there
-      (makes_nothing (Some move.was) (marks (commits before.journal + 1) move.was move.transaction) (nothing_so_far (marks (commits before.journal + 1) move.was move.transaction) refl move.free.work))) serial.apart)
-      (agrees_turned manager before after slot (Some move.was) (Some (marks (commits before.journal + 1) move.was move.transaction)) move.turns floors move.settled.count
+      (same_made before.course after.course slot move.was (marks_next before move.was move.transaction) move.turns.was_there move.turns.is_there
+      (makes_nothing (Some move.was) (marks_next before move.was move.transaction) (nothing_so_far (marks_next before move.was move.transaction) refl move.free.work))) serial.apart)
+      (agrees_turned manager before after slot (Some move.was) (Some (marks_next before move.was move.transaction)) move.turns floors move.settled.count
       (λ among class. inr (record {
-        keeps = plan_stays move.was (marks (commits before.journal + 1) move.was move.transaction) class (λ t open_one unmarked held plans. never move.was.plans move.plans plans);
+        keeps = plan_stays move.was (marks_next before move.was move.transaction) class (λ t open_one unmarked held plans. never move.was.plans move.plans plans);
         settled = move.settled.elsewhere class (unlatched among class);
         aimed = ap (λ (vs : Versions). objects_in vs class) move.aimed;
       }))

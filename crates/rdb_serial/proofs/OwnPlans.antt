@@ -33,6 +33,10 @@ use Rattle.rdb_serial.proofs.GivingMoves.{held_by_one, begun_again}
 use Rattle.rdb_serial.proofs.PutLemmas.{put_shown, put_work}
 use Rattle.rdb_serial.proofs.ObjectLemmas.{done_with, not_so, writes_it, same_row, fits_still, unrefused_still, draws_more, IsNewlyDrawn, makes_newly, makes_none_again, made_either, drawn_both}
 
+-- the progress of a connection whose own plan is made
+abbrev planning : Work → Progress → Progress
+planning w p = record p { work = Some w; plans = true }
+
 -- the story of a connection whose own plan isn't made, and with that plan
 unplanned_story : (p : Progress) (w : Work) → p.work ≡ Some w → w.puts ≡ None → so_far p ≡ p.done
 unplanned_story p w in_work unplanned =
@@ -57,12 +61,12 @@ module _ (schema : Schema) (manager : Manager) (before after : History) (slot id
   grows : (k : ℕ) → slice_index before.drawn k ≤ slice_index after.drawn k
   grows = draws_more move.work.op id before.drawn after.drawn move.object
 
-  longer : so_far (record move.was { work = Some move.planned; plans = true }) ≡ so_far move.was ++ done_with id move.work.op ∷ []
+  longer : so_far (planning move.planned move.was) ≡ so_far move.was ++ done_with id move.work.op ∷ []
   longer =
       planned_story move.was move.planned (with_id id move.work.op) version move.op_is move.puts_is
       ∙ sym (ap (λ (d : List (Op × Reply)). d ++ done_with id move.work.op ∷ []) (unplanned_story move.was move.work move.to_plan.in_work move.to_plan.unplanned))
 
-  plan : Planning schema manager before after slot (class_of move.work.op) move.was (record move.was { work = Some move.planned; plans = true }) move.transaction
+  plan : Planning schema manager before after slot (class_of move.work.op) move.was (planning move.planned move.was) move.transaction
   plan = record {
     serial = serial;
     turns = move.turns;
@@ -86,15 +90,15 @@ module _ (schema : Schema) (manager : Manager) (before after : History) (slot id
   puts_seen : Puts (view move.was.latches before.settled before.aimed) (view move.was.latches before.settled after.aimed) (tx_of move.was move.transaction) (class_of move.work.op) id (row_left (with_id id move.work.op))
   puts_seen = subst (λ (r : Option Row). Puts (view move.was.latches before.settled before.aimed) (view move.was.latches before.settled after.aimed) (tx_of move.was move.transaction) (class_of move.work.op) id r) (sym (same_row move.work.op id))
       (moved_put before.aimed after.aimed (view move.was.latches before.settled before.aimed) (view move.was.latches before.settled after.aimed) (class_of move.work.op)
-      (view_there schema manager before after slot (class_of move.work.op) move.was (record move.was { work = Some move.planned; plans = true }) move.transaction plan move.latched)
-      (view_long schema manager before after slot (class_of move.work.op) move.was (record move.was { work = Some move.planned; plans = true }) move.transaction plan move.latched)
-      (view_was schema manager before after slot (class_of move.work.op) move.was (record move.was { work = Some move.planned; plans = true }) move.transaction plan move.latched)
-      (view_now schema manager before after slot (class_of move.work.op) move.was (record move.was { work = Some move.planned; plans = true }) move.transaction plan move.latched)
-      (view_elsewhere schema manager before after slot (class_of move.work.op) move.was (record move.was { work = Some move.planned; plans = true }) move.transaction plan move.latched)
+      (view_there schema manager before after slot (class_of move.work.op) move.was (planning move.planned move.was) move.transaction plan move.latched)
+      (view_long schema manager before after slot (class_of move.work.op) move.was (planning move.planned move.was) move.transaction plan move.latched)
+      (view_was schema manager before after slot (class_of move.work.op) move.was (planning move.planned move.was) move.transaction plan move.latched)
+      (view_now schema manager before after slot (class_of move.work.op) move.was (planning move.planned move.was) move.transaction plan move.latched)
+      (view_elsewhere schema manager before after slot (class_of move.work.op) move.was (planning move.planned move.was) move.transaction plan move.latched)
       (tx_of move.was move.transaction) id (row_left move.work.op) move.puts)
 
   unmarked : marks_of before.course (tx_of move.was move.transaction) ≡ None
-  unmarked = unmarked_tx schema manager before after slot (class_of move.work.op) move.was (record move.was { work = Some move.planned; plans = true }) move.transaction plan
+  unmarked = unmarked_tx schema manager before after slot (class_of move.work.op) move.was (planning move.planned move.was) move.transaction plan
 
   unrefused : IsUnrefused schema (shown_to (scene_of before) move.was move.transaction) (with_id id move.work.op)
   unrefused = unrefused_still schema (shown_to (scene_of before) move.was move.transaction) move.work.op id (on.unrefused move.work move.to_plan.in_work move.to_plan.unplanned)
@@ -102,16 +106,16 @@ module _ (schema : Schema) (manager : Manager) (before after : History) (slot id
   fits : Fits schema (with_id id move.work.op) move.transaction.kind
   fits = fits_still schema move.transaction.kind move.work.op id (on.fits_work move.work move.to_plan.in_work)
 
-  going : IsGoingOn schema manager (record (scene_of before) { drawn = after.drawn; aimed = after.aimed }) (record move.was { work = Some move.planned; plans = true }) move.transaction
+  going : IsGoingOn schema manager (record (scene_of before) { drawn = after.drawn; aimed = after.aimed }) (planning move.planned move.was) move.transaction
   going = record {
     work = subst (λ (d : List (Op × Reply)). IsWork (marks_of before.course) (view move.was.latches before.settled after.aimed) (tx_of move.was move.transaction) move.transaction.snapshot d) (sym longer)
         (put_work before.journal (marks_of before.course) (view move.was.latches before.settled before.aimed) (view move.was.latches before.settled after.aimed) (tx_of move.was move.transaction) move.transaction.snapshot (class_of move.work.op) id
-        (with_id id move.work.op) (reply_when_done (with_id id move.work.op)) (view_kept schema manager before after slot (class_of move.work.op) move.was (record move.was { work = Some move.planned; plans = true }) move.transaction plan move.latched)
+        (with_id id move.work.op) (reply_when_done (with_id id move.work.op)) (view_kept schema manager before after slot (class_of move.work.op) move.was (planning move.planned move.was) move.transaction plan move.latched)
         (writes_it move.work.op id before.drawn after.drawn move.object) puts_seen (so_far move.was) on.work);
     runs = ap (run schema (fold schema before.journal move.transaction.snapshot)) longer
         ∙ run_more schema (fold schema before.journal move.transaction.snapshot) (shown_to (scene_of before) move.was move.transaction) (so_far move.was) (with_id id move.work.op) (reply_when_done (with_id id move.work.op)) on.runs (sym unrefused)
         ∙ ap Some (sym (put_shown before.journal (marks_of before.course) (view move.was.latches before.settled before.aimed) (view move.was.latches before.settled after.aimed) (tx_of move.was move.transaction) move.transaction.snapshot (class_of move.work.op) id
-        (with_id id move.work.op) (reply_when_done (with_id id move.work.op)) (view_kept schema manager before after slot (class_of move.work.op) move.was (record move.was { work = Some move.planned; plans = true }) move.transaction plan move.latched)
+        (with_id id move.work.op) (reply_when_done (with_id id move.work.op)) (view_kept schema manager before after slot (class_of move.work.op) move.was (planning move.planned move.was) move.transaction plan move.latched)
         (writes_it move.work.op id before.drawn after.drawn move.object) puts_seen schema unmarked unrefused));
     unrefused = λ w in_work none. absurd (let same : move.planned ≡ w = (cc) in let puts : Some version ≡ None = sym move.puts_is ∙ ap (λ (x : Work). x.puts) same ∙ none in (cc));
     fits = subst (AllFit schema move.transaction.kind) (sym longer) (fits_more schema move.transaction.kind (so_far move.was) (done_with id move.work.op) on.fits fits);
@@ -119,14 +123,14 @@ module _ (schema : Schema) (manager : Manager) (before after : History) (slot id
     sees_all = λ single writes. let all = on.sees_all single writes in (
       all.0,
       change_shown before.journal before.course (marks_of before.course) (tx_of move.was move.transaction) (view move.was.latches before.settled before.aimed) (view move.was.latches before.settled after.aimed) (class_of move.work.op)
-          (view_kept schema manager before after slot (class_of move.work.op) move.was (record move.was { work = Some move.planned; plans = true }) move.transaction plan move.latched) unmarked
+          (view_kept schema manager before after slot (class_of move.work.op) move.was (planning move.planned move.was) move.transaction plan move.latched) unmarked
           (commits before.journal) None (λ e. (cc)) (λ floor is_floor. is_floor.there)
-          (view_change schema manager before after slot (class_of move.work.op) move.was (record move.was { work = Some move.planned; plans = true }) move.transaction plan move.latched)
+          (view_change schema manager before after slot (class_of move.work.op) move.was (planning move.planned move.was) move.transaction plan move.latched)
           ∙ all.1,
     );
   }
 
-  opened : IsOpen schema manager (record (scene_of before) { drawn = after.drawn; aimed = after.aimed }) (record move.was { work = Some move.planned; plans = true }) move.transaction
+  opened : IsOpen schema manager (record (scene_of before) { drawn = after.drawn; aimed = after.aimed }) (planning move.planned move.was) move.transaction
   opened = record {
     number = was_open.number;
     begun = begun_again schema (scene_of before) after.drawn after.aimed move.transaction was_open.begun;
@@ -136,10 +140,10 @@ module _ (schema : Schema) (manager : Manager) (before after : History) (slot id
     rolls_back = was_open.rolls_back;
   }
 
-  made_longer : made_in (so_far (record move.was { work = Some move.planned; plans = true })) ≡ made_in (so_far move.was) ++ made_in (done_with id move.work.op ∷ [])
+  made_longer : made_in (so_far (planning move.planned move.was)) ≡ made_in (so_far move.was) ++ made_in (done_with id move.work.op ∷ [])
   made_longer = ap made_in longer ∙ made_with (so_far move.was) (done_with id move.work.op)
 
-  here : IsConnection schema manager (record (scene_of before) { drawn = after.drawn; aimed = after.aimed }) slot (record move.was { work = Some move.planned; plans = true })
+  here : IsConnection schema manager (record (scene_of before) { drawn = after.drawn; aimed = after.aimed }) slot (planning move.planned move.was)
   here = record {
     place = is_there.place;
     ended = is_there.ended;
@@ -151,7 +155,7 @@ module _ (schema : Schema) (manager : Manager) (before after : History) (slot id
     drawn = subst (AreDrawn after.drawn) (sym made_longer)
         (drawn_both after.drawn (made_in (so_far move.was)) (made_in (done_with id move.work.op ∷ [])) (drawn_more before.drawn after.drawn (made_in (so_far move.was)) grows is_there.drawn)
         (λ class one made. (makes_newly move.work.op id before.drawn after.drawn move.object (class, one) made).1));
-    open_one = λ u e. subst (IsOpen schema manager (record (scene_of before) { drawn = after.drawn; aimed = after.aimed }) (record move.was { work = Some move.planned; plans = true }))
+    open_one = λ u e. subst (IsOpen schema manager (record (scene_of before) { drawn = after.drawn; aimed = after.aimed }) (planning move.planned move.was))
         (let same : Some move.transaction ≡ Some u = sym move.to_plan.open_one.open_one ∙ e in let one : move.transaction ≡ u = (cc) in one) opened;
   }
 
@@ -173,5 +177,5 @@ module _ (schema : Schema) (manager : Manager) (before after : History) (slot id
       go (inr new) = inr (λ other differs. made_of_none other object (makes_newly move.work.op id before.drawn after.drawn move.object object new).0)
 
   pub plans_own : IsSerial schema manager after
-  plans_own = planned schema manager before after slot (class_of move.work.op) move.was (record move.was { work = Some move.planned; plans = true }) move.transaction plan
+  plans_own = planned schema manager before after slot (class_of move.work.op) move.was (planning move.planned move.was) move.transaction plan
       (apart_fresh before.course after.course slot move.turns.others fresh serial.apart) here

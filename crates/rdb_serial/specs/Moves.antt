@@ -202,6 +202,12 @@ pub record Settles (before after : History) (slot : ℕ) : Type 0 where
   pub aimed : after.aimed ≡ before.aimed
   pub settled : TakesOver was.latches before.settled before.aimed after.settled
 
+-- The last cell of a plan of a single writer is written, and its operation goes on: nothing is settled before its transaction is marked.
+pub record WritesOut (manager : Manager) (before after : History) (slot : ℕ) : Type 0 where
+  pub was : Progress
+  pub single : manager ≡ managers.Mursiw
+  pub turns : OnlyTurns before after slot (Some was) (Some (record was { plans = false }))
+
 -- The operation in work is done, its own plan being written: it stands in the story with its reply. Where many may write, its versions are
 -- settled, and its latch is given up.
 pub record Finishes (manager : Manager) (before after : History) (slot : ℕ) (version : CellRef) : Type 0 where

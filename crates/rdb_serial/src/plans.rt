@@ -7,7 +7,7 @@ ghost use Rattle.rdb_pages.specs.declared.cell.CellRef.{CellRef};
 ghost use Rattle.rdb_schema.specs.declared.schema.Schema.{Schema};
 ghost use Rattle.rdb_serial.specs.Histories.{History, AreHeldOnce};
 ghost use Rattle.rdb_serial.specs.Serial.{IsSerial};
-ghost use Rattle.rdb_serial.specs.Moves.{PlansGarbage, PlansOwn, PlansDrop, Settles};
+ghost use Rattle.rdb_serial.specs.Moves.{PlansGarbage, PlansOwn, PlansDrop, Settles, WritesOut};
 
 /// The drop of a garbage version is planned for an operation in work.
 pub fn a_garbage_plan_keeps_the_history()
@@ -34,4 +34,10 @@ pub fn a_written_plan_keeps_the_history()
     ensures { (schema : Schema) (before after : History) (slot : ℕ) →
         IsSerial schema managers.Mvcc before → AreHeldOnce before.course → Settles before after slot →
         IsSerial schema managers.Mvcc after }
+{}
+
+/// The last cell of a plan is written, where one writes alone.
+pub fn a_plan_written_alone_keeps_the_history()
+    ensures { (schema : Schema) (manager : Manager) (before after : History) (slot : ℕ) →
+        IsSerial schema manager before → WritesOut manager before after slot → IsSerial schema manager after }
 {}
