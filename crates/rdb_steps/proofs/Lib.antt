@@ -44,3 +44,8 @@ pub mod WrittenLemmas
 pub mod FollowLemmas
 pub mod WholeSteps
 pub mod NearLemmas
+pub mod OrderedLemmas
+pub mod DoneChains
+pub mod StampKept
+pub mod StateStamps
+pub mod DebtFalls

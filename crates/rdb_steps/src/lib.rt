@@ -20,6 +20,7 @@ mod laws;
 mod moves;
 mod plan_laws;
 mod rooms;
+mod stamp;
 mod state;
 mod take_back;
 mod write;
