@@ -49,7 +49,9 @@ pub mod ClassHolds
 pub mod PlacesLemmas
 pub mod DuePlans
 pub mod OwnDropPlans
+pub mod OwnDropSteps
 pub mod ClaimLemmas
 pub mod DrawnLemmas
 pub mod OwnPlans
 pub mod OwnWhole
+pub mod OwnSteps

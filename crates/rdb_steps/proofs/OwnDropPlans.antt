@@ -8,6 +8,7 @@ use Rattle.rdb_base.specs.declared.identity.Kind.TheVariants as kind
 use Rattle.rdb_base.specs.declared.identity.Manager.{Manager}
 use Rattle.rdb_base.specs.declared.identity.Phase.{Phase}
 use Rattle.rdb_base.specs.declared.identity.Phase.TheVariants as phase
+use Rattle.rdb_base.specs.declared.journal.Cause.{Cause}
 use Rattle.rdb_pages.specs.declared.cell.CellRef.{CellRef}
 use Rattle.rdb_cells.proofs.SettledLemmas.{true_or_false}
 use Rattle.rdb_cells.specs.declared.pairs.Pair.{Pair}
@@ -251,7 +252,7 @@ module _ {P : Type 0} (s : State P) (c : ConnId) (whole : IsWhole s) (seat : Sea
     cause = cause ∙ q.cause;
   }
   drop_phase h latches phase.Writing q rolls work cause = record { transaction = q.transaction; cause = cause ∙ q.cause }
-  drop_phase h latches phase.RollingBack q rolls work cause = record { work = work ∙ q.work; transaction = q.transaction; cause = subst (λ o. IsSome o) (sym cause) q.cause }
+  drop_phase h latches phase.RollingBack q rolls work cause = record { work = work ∙ q.work; transaction = q.transaction; cause = subst (λ (o : Option Cause). IsSome o) (sym cause) q.cause }
   drop_phase h latches phase.Stamping q rolls work cause =
       let marked = subst (λ (o : Option Transaction). IsSomeAnd o (λ u. (u.kind ≡ kind.ReadWrite) × IsSome u.mark)) opened.1.0 q.transaction in
       absurd (false≢true (sym (ap (λ (o : Option Transaction). is_some (option_and_then (λ (u : Transaction). u.mark) o)) (sym opened.1.0) ∙ unmarked) ∙ marked.1))
