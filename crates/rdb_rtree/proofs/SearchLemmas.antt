@@ -139,7 +139,7 @@ pub step_others : (at : CellRef) (all first rest : List CellRef) → all ≡ fir
 step_others at all first rest same one others = subst (AreOthers at) (sym same) (each_both (λ (r : CellRef). r.number ≢ at.number) first rest one others)
 
 pub end_others : (at : CellRef) (h : ℕ) (ts : List (RTree h)) (i : ℕ) → length ts ≤ i → AreOthers at (versions_below h (drop i ts))
-end_others at h ts i past = subst (λ (us : List (RTree h)). AreOthers at (versions_below h us)) (sym (drop_all ts i past)) tt
+end_others at h ts i past = subst (λ (us : List (RTree h)). AreOthers at (versions_below h us)) (sym (drop_all i ts past)) tt
 
 -- the tree at a place below a node, and what stands behind it
 pub record IsLosing (keys : Meaning) (said : Sayings) (image : Image) (level : ℕ) (lost : Entry) (h : ℕ) (ts : List (RTree h)) (i : ℕ) (e : Entry) : Type 0 where

@@ -49,10 +49,10 @@ pub(crate) fn remove<C: Cells, K: Keys>(
         at: root,
         cover: node.cover,
     };
-    match without_entry(cells, keys, top, node.level, lost) {
-        Some(entries) => lower_root(cells, tree.head, root, node.level, entries),
-        None => unreachable!(),
-    }
+    let Some(entries) = without_entry(cells, keys, top, node.level, lost) else {
+        unreachable!()
+    };
+    lower_root(cells, tree.head, root, node.level, entries);
 }
 
 /// Returns how many entries a root of a level has at least: one in a leaf, and two above.
@@ -157,16 +157,17 @@ fn without_entry<C: Cells, K: Keys>(
     if !lies_in(&lost.cover, &node.cover) {
         return None;
     }
-    let mut entries = entries_at(&*cells, keys, node.at, level);
+    let entries = entries_at(&*cells, keys, node.at, level);
     if level == 0 {
         return without(entries, lost.at);
     }
     for place in 0..entries.len() {
         let child = entries.as_slice()[place];
         if let Some(left) = without_entry(cells, keys, child, level - 1, lost) {
-            let _child = entries.remove(place);
-            mend(cells, keys, child.at, level - 1, left, &mut entries);
-            return Some(entries);
+            let mut others = entries;
+            let _child = others.remove(place);
+            mend(cells, keys, child.at, level - 1, left, &mut others);
+            return Some(others);
         }
     }
     None

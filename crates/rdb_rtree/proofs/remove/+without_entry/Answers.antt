@@ -35,28 +35,53 @@ returns-then-level-eq0-clause-none g m c =
 pub without_entry-requires : goal.without_entry-requires
 without_entry-requires g m c κs within =
     let none : Entry = record { at = record { number = 0 }; cover = record { x1 = pos 0; y1 = pos 0; x2 = pos 0; y2 = pos 0 } } in
+    let low : c.loop-place.place < length c.as_slice.result.now = (let end = c.len-place-end.ensures.value in let many = ap (length {A = Entry}) c.as_slice.ensures.value in let test = c.loop-place-test.true in omega arith) in
     let inner = c.if-level-eq0.false in
     let falls = c.decreases in
-    let same = c.loop-place.invariant.0 in
     let room = c.requires.places in
-    let is = subst (λ (v : Work). IsShrinking (g.K.Keys.meaning c.args.keys.now) c.requires.tree.0 (reading v) c.args.node c.args.level c.args.lost c.requires.tree.1 c.requires.tree.2) (sym same) c.requires.tree.3 in
-    let child = losing_child (g.K.Keys.meaning c.args.keys.now) c.requires.tree.0 (work g.C.Cells c.loop-place.cells) c.args.node c.args.level c.args.lost c.if-level-eq0.false c.as_slice.result.now c.loop-place.place none c.loop-place-test.true c.requires.tree.1 c.requires.tree.2 is (c.as_slice.ensures.value ∙ c.entries_at-entries.ensures c.requires.tree.0 c.requires.tree.1 c.requires.tree.2 c.requires.tree.3.keyed) in
-    (omega arith, (within.0, (within.1, ((c.requires.tree.0, child.height, child.child, child.is), subst (λ (v : Work). HasPlaces v (2 * (c.args.level - 1))) (sym same) (omega arith)))))
+    let is = subst (λ (v : Work). IsShrinking (g.K.Keys.meaning c.args.keys.now) c.requires.tree.0 (reading v) c.args.node c.args.level c.args.lost c.requires.tree.1 c.requires.tree.2) (sym c.loop-place.invariant.0) c.requires.tree.3 in
+    let child = losing_child (g.K.Keys.meaning c.args.keys.now) c.requires.tree.0 (work g.C.Cells c.loop-place.cells) c.args.node c.args.level c.args.lost c.if-level-eq0.false c.as_slice.result.now c.loop-place.place none low c.requires.tree.1 c.requires.tree.2 is (c.as_slice.ensures.value ∙ c.entries_at-entries.ensures c.requires.tree.0 c.requires.tree.1 c.requires.tree.2 c.requires.tree.3.keyed) in
+    (omega arith, (within.0, (within.1, ((c.requires.tree.0, child.height, child.child, child.is), subst (λ (v : Work). HasPlaces v (2 * (c.args.level - 1))) (sym c.loop-place.invariant.0) (omega arith)))))
 
 pub loop-place-preserved : goal.loop-place-preserved
-loop-place-preserved g m c = ?
+loop-place-preserved g m c =
+    let none : Entry = record { at = record { number = 0 }; cover = record { x1 = pos 0; y1 = pos 0; x2 = pos 0; y2 = pos 0 } } in
+    let low : c.loop-place.place < length c.as_slice.result.now = (let end = c.len-place-end.ensures.value in let many = ap (length {A = Entry}) c.as_slice.ensures.value in let test = c.loop-place-test.true in omega arith) in
+    let one = losing_child (g.K.Keys.meaning c.args.keys.now) c.requires.tree.0 (work g.C.Cells c.loop-place.cells) c.args.node c.args.level c.args.lost c.if-level-eq0.false c.as_slice.result.now c.loop-place.place none low c.requires.tree.1 c.requires.tree.2 (subst (λ (v : Work). IsShrinking (g.K.Keys.meaning c.args.keys.now) c.requires.tree.0 (reading v) c.args.node c.args.level c.args.lost c.requires.tree.1 c.requires.tree.2) (sym c.loop-place.invariant.0) c.requires.tree.3) (c.as_slice.ensures.value ∙ c.entries_at-entries.ensures c.requires.tree.0 c.requires.tree.1 c.requires.tree.2 c.requires.tree.3.keyed) in (
+      (c.in_default.ensures.none c.requires.tree.0 one.height one.child one.is).1 ∙ c.loop-place.invariant.0,
+      λ said h t is rest.
+          let child = losing_child (g.K.Keys.meaning c.args.keys.now) said (work g.C.Cells c.loop-place.cells) c.args.node c.args.level c.args.lost c.if-level-eq0.false c.as_slice.result.now c.loop-place.place none low h t (subst (λ (v : Work). IsShrinking (g.K.Keys.meaning c.args.keys.now) said (reading v) c.args.node c.args.level c.args.lost h t) (sym c.loop-place.invariant.0) is) (c.as_slice.ensures.value ∙ c.entries_at-entries.ensures said h t is.keyed) in
+          c.loop-place.invariant.1 said h t is
+          (step_others c.args.lost.at (versions_below h (drop c.loop-place.place t.below)) (versions (suc child.height) child.child) (versions_below h (drop (c.loop-place.place + 1) t.below)) child.part
+          (c.in_default.ensures.none said child.height child.child child.is).0 rest),
+      c.without_entry.ensures.below.0 ∙ c.loop-place.invariant.2,
+      c.without_entry.ensures.below.1 ∙ c.loop-place.invariant.3,
+    )
 
 pub mend-requires-clause-mends : goal.mend-requires-clause-mends
-mend-requires-clause-mends g m c = ?
+mend-requires-clause-mends g m c =
+    let none : Entry = record { at = record { number = 0 }; cover = record { x1 = pos 0; y1 = pos 0; x2 = pos 0; y2 = pos 0 } } in
+    let low : c.loop-place.place < length c.as_slice.result.now = (let end = c.len-place-end.ensures.value in let many = ap (length {A = Entry}) c.as_slice.ensures.value in let test = c.loop-place-test.true in omega arith) in
+    let mends = losing_mends (g.K.Keys.meaning c.args.keys.now) c.requires.tree.0 (work g.C.Cells c.loop-place.cells) c.args.node c.args.level c.args.lost c.if-level-eq0.false c.as_slice.result.now c.loop-place.place none low (work g.C.Cells c.without_entry.new.cells) c.in-Some.left.items c.remove-child.new.self.items (c.remove-child.ensures.items ∙ ap (λ (es : List Entry). remove es c.loop-place.place) (sym c.as_slice.ensures.value)) (c.in-Some.ensures.found c.requires.tree.0) (g.met.K.Keys.rests_on_versions c.args.keys.now) c.requires.tree.1 c.requires.tree.2 (subst (λ (v : Work). IsShrinking (g.K.Keys.meaning c.args.keys.now) c.requires.tree.0 (reading v) c.args.node c.args.level c.args.lost c.requires.tree.1 c.requires.tree.2) (sym c.loop-place.invariant.0) c.requires.tree.3) (c.as_slice.ensures.value ∙ c.entries_at-entries.ensures c.requires.tree.0 c.requires.tree.1 c.requires.tree.2 c.requires.tree.3.keyed) in
+    (c.requires.tree.0, mends.0, mends.1, mends.2, mends.3)
 
 pub mend-requires-clause-places : goal.mend-requires-clause-places
-mend-requires-clause-places g m c = ?
+mend-requires-clause-places g m c =
+    let none : Entry = record { at = record { number = 0 }; cover = record { x1 = pos 0; y1 = pos 0; x2 = pos 0; y2 = pos 0 } } in
+    let low : c.loop-place.place < length c.as_slice.result.now = (let end = c.len-place-end.ensures.value in let many = ap (length {A = Entry}) c.as_slice.ensures.value in let test = c.loop-place-test.true in omega arith) in
+    losing_room (g.K.Keys.meaning c.args.keys.now) c.requires.tree.0 (work g.C.Cells c.loop-place.cells) c.args.node c.args.level c.args.lost c.if-level-eq0.false c.as_slice.result.now c.loop-place.place none low (work g.C.Cells c.without_entry.new.cells) c.in-Some.left.items c.remove-child.new.self.items (c.remove-child.ensures.items ∙ ap (λ (es : List Entry). remove es c.loop-place.place) (sym c.as_slice.ensures.value)) (c.in-Some.ensures.found c.requires.tree.0) c.requires.tree.1 c.requires.tree.2 (subst (λ (v : Work). IsShrinking (g.K.Keys.meaning c.args.keys.now) c.requires.tree.0 (reading v) c.args.node c.args.level c.args.lost c.requires.tree.1 c.requires.tree.2) (sym c.loop-place.invariant.0) c.requires.tree.3) (c.as_slice.ensures.value ∙ c.entries_at-entries.ensures c.requires.tree.0 c.requires.tree.1 c.requires.tree.2 c.requires.tree.3.keyed)
+    (subst (λ (v : Work). HasPlaces v (2 * c.args.level)) (sym c.loop-place.invariant.0) c.requires.places)
 
 pub returns-in-Some-clause-found : goal.returns-in-Some-clause-found
-returns-in-Some-clause-found g m c = ?
+returns-in-Some-clause-found g m c = λ said h t is.
+    let none : Entry = record { at = record { number = 0 }; cover = record { x1 = pos 0; y1 = pos 0; x2 = pos 0; y2 = pos 0 } } in
+    let low : c.loop-place.place < length c.as_slice.result.now = (let end = c.len-place-end.ensures.value in let many = ap (length {A = Entry}) c.as_slice.ensures.value in let test = c.loop-place-test.true in omega arith) in
+    subst (λ (v : Work). HasShrunk said v (work g.C.Cells c.mend.new.cells) c.args.lost.at h t.below c.mend.new.above.items) c.loop-place.invariant.0
+    (losing_shrunk (g.K.Keys.meaning c.args.keys.now) said (work g.C.Cells c.loop-place.cells) c.args.node c.args.level c.args.lost c.if-level-eq0.false c.as_slice.result.now c.loop-place.place none low (work g.C.Cells c.without_entry.new.cells) c.in-Some.left.items c.remove-child.new.self.items (c.remove-child.ensures.items ∙ ap (λ (es : List Entry). remove es c.loop-place.place) (sym c.as_slice.ensures.value)) (c.in-Some.ensures.found said) (g.met.K.Keys.rests_on_versions c.args.keys.now) (work g.C.Cells c.mend.new.cells) c.mend.new.above.items (c.mend.ensures.mended said) h t (subst (λ (v : Work). IsShrinking (g.K.Keys.meaning c.args.keys.now) said (reading v) c.args.node c.args.level c.args.lost h t) (sym c.loop-place.invariant.0) is) (c.as_slice.ensures.value ∙ c.entries_at-entries.ensures said h t is.keyed))
 
 pub returns-clause-none : goal.returns-clause-none
 returns-clause-none g m c = λ said h t is.
     let many = as_many (g.K.Keys.meaning c.args.keys.now) said (reading (work g.C.Cells c.args.cells.now)) c.args.node.at c.args.level h t is.keyed c.entries_at-entries.result.items (c.entries_at-entries.ensures said h t is.keyed) in
     let past = c.loop-place-test.false in
+    let end = c.len-place-end.ensures.value in
     (c.loop-place.invariant.1 said h t is (end_others c.args.lost.at h t.below c.loop-place.place (omega arith)), c.loop-place.invariant.0)

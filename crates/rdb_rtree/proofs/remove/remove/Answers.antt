@@ -42,9 +42,12 @@ lower_root-requires-clause-places g c =
     let shrunk = some_at c.without_entry.result (λ es. (said : Sayings) (h : ℕ) (t : Node (RTree h)) → IsShrinking (g.K.Keys.meaning c.args.keys.now) said (reading (work g.C.Cells c.args.cells.now)) (record { at = c.root_in-root.result; cover = c.node_at-node.result.cover }) c.node_at-node.result.level (record { at = c.args.version; cover = c.rect.result }) h t → HasShrunk said (work g.C.Cells c.args.cells.now) (work g.C.Cells c.without_entry.new.cells) c.args.version h t.below es.items) c.in-Some.entries c.in-Some.is c.without_entry.ensures.found (says (g.K.Keys.meaning c.args.keys.now) (reading (work g.C.Cells c.args.cells.now))) r.h r.t r.shrinking in
     root_room (g.K.Keys.meaning c.args.keys.now) (says (g.K.Keys.meaning c.args.keys.now) (reading (work g.C.Cells c.args.cells.now))) (work g.C.Cells c.args.cells.now) c.args.tree.now.head (record { at = c.root_in-root.result; cover = c.node_at-node.result.cover }) c.node_at-node.result.level (record { at = c.args.version; cover = c.rect.result }) c.requires.standing.2.tree r (work g.C.Cells c.without_entry.new.cells) c.in-Some.entries.items shrunk c.requires.places
 
-pub returns-in-Some-clause-removed : goal.returns-in-Some-clause-removed
-returns-in-Some-clause-removed g c = λ listed nodes is within.
+pub returns-clause-removed : goal.returns-clause-removed
+returns-clause-removed g c = λ listed nodes is within.
     let r = top_is (g.K.Keys.meaning c.args.keys.now) (work g.C.Cells c.args.cells.now) c.args.tree.now.head listed nodes is c.root_in-root.result (root_read (reading (work g.C.Cells c.args.cells.now)) c.args.tree.now.head.number (root_of is.tree) c.root_in-root.result c.planned.result.now is.leads c.planned.ensures.planned c.root_in-root.ensures) c.args.version within (record { at = c.args.version; cover = c.rect.result }) (proper_entry (g.K.Keys.meaning c.args.keys.now) (reading (work g.C.Cells c.args.cells.now)) c.args.version (listed_boxed (g.K.Keys.meaning c.args.keys.now) (work g.C.Cells c.args.cells.now) c.args.tree.now.head listed nodes is c.root_in-root.result (root_read (reading (work g.C.Cells c.args.cells.now)) c.args.tree.now.head.number (root_of is.tree) c.root_in-root.result c.planned.result.now is.leads c.planned.ensures.planned c.root_in-root.ensures) c.args.version within) c.rect.result c.rect.ensures) c.node_at-node.result c.node_at-node.ensures in
     let shrunk = some_at c.without_entry.result (λ es. (said : Sayings) (h : ℕ) (t : Node (RTree h)) → IsShrinking (g.K.Keys.meaning c.args.keys.now) said (reading (work g.C.Cells c.args.cells.now)) (record { at = c.root_in-root.result; cover = c.node_at-node.result.cover }) c.node_at-node.result.level (record { at = c.args.version; cover = c.rect.result }) h t → HasShrunk said (work g.C.Cells c.args.cells.now) (work g.C.Cells c.without_entry.new.cells) c.args.version h t.below es.items) c.in-Some.entries c.in-Some.is c.without_entry.ensures.found (says (g.K.Keys.meaning c.args.keys.now) (reading (work g.C.Cells c.args.cells.now))) r.h r.t r.shrinking in
     removed_whole (g.K.Keys.meaning c.args.keys.now) (says (g.K.Keys.meaning c.args.keys.now) (reading (work g.C.Cells c.args.cells.now))) (work g.C.Cells c.args.cells.now) c.args.tree.now.head (record { at = c.root_in-root.result; cover = c.node_at-node.result.cover }) c.node_at-node.result.level (record { at = c.args.version; cover = c.rect.result }) is.tree r (work g.C.Cells c.without_entry.new.cells) c.in-Some.entries.items shrunk c.args.version refl (work g.C.Cells c.lower_root.new.cells)
     (c.lower_root.ensures.lowered (says (g.K.Keys.meaning c.args.keys.now) (reading (work g.C.Cells c.args.cells.now))) r.h shrunk.now (root_lowers (g.K.Keys.meaning c.args.keys.now) (says (g.K.Keys.meaning c.args.keys.now) (reading (work g.C.Cells c.args.cells.now))) (work g.C.Cells c.args.cells.now) c.args.tree.now.head (record { at = c.root_in-root.result; cover = c.node_at-node.result.cover }) c.node_at-node.result.level (record { at = c.args.version; cover = c.rect.result }) is.tree r (work g.C.Cells c.without_entry.new.cells) c.in-Some.entries.items shrunk))
+
+pub unreachable-requires : goal.unreachable-requires
+unreachable-requires g c = ?
