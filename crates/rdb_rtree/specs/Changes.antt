@@ -84,7 +84,8 @@ pub record IsToSettle (said : Sayings) (w : Work) (at : CellRef) (level h : ℕ)
 
 -- A node was written above trees, or two where they are too many: the first one in the node's own cell. They came behind what
 -- stood beside it.
-pub record AreSettled (said : Sayings) (before after : Work) (at : CellRef) (h : ℕ) (ts : List (RTree h)) (was now : List Entry) : Type 0 where
+pub record AreSettled (said : Sayings) (before after : Work) (at : CellRef) (h : ℕ) (ts : List (RTree h))
+    (was now : List Entry) : Type 0 where
   pub fresh : List ℕ
   pub node : Node (RTree h)
   pub others : List (RTree (suc h))
@@ -100,7 +101,8 @@ pub record AreSettled (said : Sayings) (before after : Work) (at : CellRef) (h :
   pub few : length fresh ≤ 1
 
 -- A tree below whose root node a version is to come, which has a box.
-pub record IsGrowing (keys : Meaning) (said : Sayings) (image : Image) (at : CellRef) (level : ℕ) (entry : Entry) (h : ℕ) (t : Node (RTree h)) : Type 0 where
+pub record IsGrowing (keys : Meaning) (said : Sayings) (image : Image) (at : CellRef) (level : ℕ) (entry : Entry) (h : ℕ)
+    (t : Node (RTree h)) : Type 0 where
   pub keyed : IsKeyedAt keys said image at level h t
   pub once : AreOnce (cells (suc h) t)
   pub some : 0 < length t.below
@@ -108,7 +110,8 @@ pub record IsGrowing (keys : Meaning) (said : Sayings) (image : Image) (at : Cel
   pub entry_is : entry ≡ entry_of said 0 entry.at
 
 -- A version came below a node, whose trees are others now, one more at most: they stand, and the node is to be written.
-pub record HasGrown (said : Sayings) (before after : Work) (version : CellRef) (h : ℕ) (was : List (RTree h)) (entries : List Entry) : Type 0 where
+pub record HasGrown (said : Sayings) (before after : Work) (version : CellRef) (h : ℕ) (was : List (RTree h))
+    (entries : List Entry) : Type 0 where
   pub fresh : List ℕ
   pub now : List (RTree h)
   pub entries_are : entries ≡ entries_above said h now
@@ -125,7 +128,8 @@ abbrev pub AreGone : Image → List ℕ → Type 0
 AreGone image gone = (n : ℕ) → IsAmong gone n → image n ≡ Some zero_cell
 
 -- A version went from below a node, whose trees are others now, one less at most: they stand, and the node is to be written.
-pub record HasShrunk (said : Sayings) (before after : Work) (version : CellRef) (h : ℕ) (was : List (RTree h)) (entries : List Entry) : Type 0 where
+pub record HasShrunk (said : Sayings) (before after : Work) (version : CellRef) (h : ℕ) (was : List (RTree h))
+    (entries : List Entry) : Type 0 where
   pub gone : List ℕ
   pub now : List (RTree h)
   pub entries_are : entries ≡ entries_above said h now
@@ -156,7 +160,8 @@ pub record IsWithout (was : List Entry) (at : CellRef) (now : List Entry) : Type
 
 -- A tree from below whose root node a version is to go, which has a box. The node is known as the entry of the one above it. A node
 -- above nodes has two entries at least.
-pub record IsShrinking (keys : Meaning) (said : Sayings) (image : Image) (node : Entry) (level : ℕ) (lost : Entry) (h : ℕ) (t : Node (RTree h)) : Type 0 where
+pub record IsShrinking (keys : Meaning) (said : Sayings) (image : Image) (node : Entry) (level : ℕ) (lost : Entry) (h : ℕ)
+    (t : Node (RTree h)) : Type 0 where
   pub keyed : IsKeyedAt keys said image node.at level h t
   pub cover_is : node.cover ≡ t.cover
   pub covers : Covers t.cover (map (box said h) t.below)
@@ -166,7 +171,8 @@ pub record IsShrinking (keys : Meaning) (said : Sayings) (image : Image) (node :
   pub lost_is : lost ≡ entry_of said 0 lost.at
 
 -- The trees that are left below a node whose cell is to be written, three at least, and those beside it, one at least.
-pub record IsToMend (keys : Meaning) (said : Sayings) (w : Work) (at : CellRef) (level h : ℕ) (left : List (RTree h)) (beside : List (RTree (suc h))) (own others : List Entry) : Type 0 where
+pub record IsToMend (keys : Meaning) (said : Sayings) (w : Work) (at : CellRef) (level h : ℕ) (left : List (RTree h))
+    (beside : List (RTree (suc h))) (own others : List Entry) : Type 0 where
   pub says : AreSaid keys (reading w) said
   pub level_is : level ≡ h
   pub low : level < 2 ^ 16
@@ -182,7 +188,8 @@ pub record IsToMend (keys : Meaning) (said : Sayings) (w : Work) (at : CellRef) 
   pub room : length beside ≤ 10
 
 -- The trees of two nodes, whose cells are to be written or given back.
-pub record IsToShare (said : Sayings) (w : Work) (at other : CellRef) (level h : ℕ) (ts : List (RTree h)) (entries : List Entry) : Type 0 where
+pub record IsToShare (said : Sayings) (w : Work) (at other : CellRef) (level h : ℕ) (ts : List (RTree h))
+    (entries : List Entry) : Type 0 where
   pub level_is : level ≡ h
   pub low : level < 2 ^ 16
   pub entries_are : entries ≡ entries_above said h ts
@@ -193,7 +200,8 @@ pub record IsToShare (said : Sayings) (w : Work) (at other : CellRef) (level h :
   pub enough : 4 ≤ length ts
 
 -- They stand below one node now, and the other cell is zero, or below two. These came behind what stood beside them.
-pub record AreShared (said : Sayings) (before after : Work) (at other : CellRef) (h : ℕ) (ts : List (RTree h)) (was now : List Entry) : Type 0 where
+pub record AreShared (said : Sayings) (before after : Work) (at other : CellRef) (h : ℕ) (ts : List (RTree h))
+    (was now : List Entry) : Type 0 where
   pub gone : List ℕ
   pub nodes : List (RTree (suc h))
   pub entries : now ≡ was ++ entries_above said (suc h) nodes
@@ -207,7 +215,8 @@ pub record AreShared (said : Sayings) (before after : Work) (at other : CellRef)
 
 -- A node was written with the trees that are left below it, together with one of those beside it where they are too few. What
 -- stands beside it and the nodes written are these trees now.
-pub record IsMended (said : Sayings) (before after : Work) (at : CellRef) (h : ℕ) (left : List (RTree h)) (beside : List (RTree (suc h))) (entries : List Entry) : Type 0 where
+pub record IsMended (said : Sayings) (before after : Work) (at : CellRef) (h : ℕ) (left : List (RTree h))
+    (beside : List (RTree (suc h))) (entries : List Entry) : Type 0 where
   pub gone : List ℕ
   pub now : List (RTree (suc h))
   pub entries_are : entries ≡ entries_above said (suc h) now
@@ -225,7 +234,8 @@ first_place [] = no_ref
 first_place (entry ∷ rest) = entry.at
 
 -- The trees that are left to a root whose cell is to be written or given back, and the head that leads to it.
-pub record IsToLower (said : Sayings) (w : Work) (head root : CellRef) (level h : ℕ) (ts : List (RTree h)) (entries : List Entry) : Type 0 where
+pub record IsToLower (said : Sayings) (w : Work) (head root : CellRef) (level h : ℕ) (ts : List (RTree h))
+    (entries : List Entry) : Type 0 where
   pub level_is : level ≡ h
   pub low : level < 2 ^ 16
   pub entries_are : entries ≡ entries_above said h ts
@@ -255,11 +265,13 @@ pub record IsPlanted (before after : Work) (head : CellRef) (level : ℕ) (entri
   pub lowest : IsLowest before top
   pub covers : IsLeastCover (map (λ entry. entry.cover) entries) cover
   pub proper : IsRtreeNode (node_with level cover (map (λ entry. entry.at) entries))
-  pub work : after ≡ with_cell (with_cell (with_taken before top) top (cell_of level cover entries)) head (index_head_cell (rooted_head top))
+  pub work : after ≡
+      with_cell (with_cell (with_taken before top) top (cell_of level cover entries)) head (index_head_cell (rooted_head top))
 
 -- The tree that a head leads to has become another one: its cells are those of before that are needed still and the fresh ones,
 -- each once; the others are zero now.
-pub record IsTreeChanged (said : Sayings) (before after : Work) (head : ℕ) (fresh gone : List ℕ) (count : ℕ) (was now : Tree) : Type 0 where
+pub record IsTreeChanged (said : Sayings) (before after : Work) (head : ℕ) (fresh gone : List ℕ) (count : ℕ)
+    (was now : Tree) : Type 0 where
   pub leads : reading after head ≡ Some (index_head_cell (rooted_head (root_of now)))
   pub stands : TreeStands (reading after) now
   pub shape : IsRtree said now

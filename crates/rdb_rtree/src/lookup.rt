@@ -47,7 +47,8 @@ pub(crate) fn gather_boxes<C: Cells, K: Keys>(
     inside: bool,
     refs: &mut Refs,
 ) -> Result<(), NoMemory>
-    requires { (said : Sayings) × (h : ℕ) × (t : NodeOf (RTree h)) × IsKeyedAt (K.meaning keys.now) said (C.image cells.now) at level h t }
+    requires { (said : Sayings) × (h : ℕ) × (t : NodeOf (RTree h))
+        × IsKeyedAt (K.meaning keys.now) said (C.image cells.now) at level h t }
     ensures { OnOk result ((said : Sayings) (h : ℕ) (t : NodeOf (RTree h)) →
         IsKeyedAt (K.meaning keys.now) said (C.image cells.now) at level h t →
         refs.new ≡ refs.old ++ found_in said rect.now inside (versions (suc h) t)) }

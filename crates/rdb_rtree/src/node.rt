@@ -45,7 +45,8 @@ fn cover_at<C: Cells, K: Keys>(cells: &C, keys: &K, at: CellRef, level: u32) -> 
 
 /// Returns the entries of the node of a level. The cost grows with their number.
 pub(crate) fn entries_at<C: Cells, K: Keys>(cells: &C, keys: &K, at: CellRef, level: u32) -> Entries
-    requires { (said : Sayings) × (h : ℕ) × (t : NodeOf (RTree h)) × IsKeyedAt (K.meaning keys.now) said (C.image cells.now) at level h t }
+    requires { (said : Sayings) × (h : ℕ) × (t : NodeOf (RTree h))
+        × IsKeyedAt (K.meaning keys.now) said (C.image cells.now) at level h t }
     ensures { (said : Sayings) (h : ℕ) (t : NodeOf (RTree h)) → IsKeyedAt (K.meaning keys.now) said (C.image cells.now) at level h t →
         result.items ≡ entries_above said h t.below }
 {

@@ -135,7 +135,8 @@ fn without(entries: Entries, at: CellRef) -> Option<Entries>
 }
 
 /// Takes the version out from below a node, and returns the entries that the node is to have, which may be one too few; or
-/// `None` where it isn't there, which a node whose box doesn't cover the version's shows at once. The cost grows with the number of nodes whose box covers the version's.
+/// `None` where it isn't there, which a node whose box doesn't cover the version's shows at once. The cost grows with the number
+/// of nodes whose box covers the version's.
 fn without_entry<C: Cells, K: Keys>(
     cells: &mut Overlay<C>,
     keys: &K,

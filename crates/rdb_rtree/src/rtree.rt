@@ -50,7 +50,8 @@ impl Rtree {
         requires { (listed : _) × (nodes : _)
             × Lists (rtree_nature self.now.class self.now.head.number) (K.meaning keys.now) (C.image cells.now) listed nodes }
         ensures { IfOk result (λ refs. WhateverListed (rtree_nature self.now.class self.now.head.number) (K.meaning keys.now)
-            (C.image cells.now) (λ listed nodes. refs ≡ found_in (says (K.meaning keys.now) (C.image cells.now)) rect.now inside listed)) }
+            (C.image cells.now) (λ listed nodes.
+            refs ≡ found_in (says (K.meaning keys.now) (C.image cells.now)) rect.now inside listed)) }
     {
         let mut refs = List::new(self.alloc);
         let root = IndexHead::root_in(cells.read(self.head), 0);
