@@ -1,12 +1,15 @@
 -- What is given means one command.
-use Rattle.std.proofs.Common.{◌≡◌, ◌≢◌, ℕ, ◌≤◌, List, [], ◌∷◌, length, Option, Some, None, slice_index, refl, sym, ap, ◌∙◌, subst, arith}
+use Rattle.std.proofs.Common.{◌≡◌, ℕ, ◌≤◌, ◌<◌, List, [], ◌∷◌, length, Option, Some, None, slice_index, refl, sym, ap, ◌∙◌, subst, arith}
+use Rattle.std.specs.Char.{digit_value}
+use Rattle.std.specs.Str.Parse.{IsNumeral}
 use Rattle.rdb_base.specs.declared.identity.Manager.{Manager}
 use Rattle.rdb_base.specs.declared.identity.Manager.TheVariants.{Mursiw, Mvcc}
 use Rattle.rdb_words.specs.Grammar.{Word, Given, Gives}
+use Rattle.rdb_words.specs.SimpleCommand.{IsPlainValue, IsReadable}
 use Rattle.rdb_words.proofs.OneMeaning.{one_given}
 use Rattle.rdb_words.proofs.Parts.{same_head, same_tail}
 use Rattle.rdb_runner.specs.declared.command_line.Settings.{Settings}
-use Rattle.rdb_runner.specs.CommandLine.{Command, replay, run, audit, check, job, word_of, Asks, AsksBy, IsCommandLine, HasSettings, IsManagerOf, ArePagesOf, word_of_manager}
+use Rattle.rdb_runner.specs.CommandLine.{Command, replay, run, audit, check, job, word_of, Asks, AsksBy, IsCommandLine, IsWithinLimits, HasSettings, IsManagerOf, ArePagesOf, word_of_manager}
 
 -- a command takes 18 names at most
 pub few_names : (command : Command) (given : Given) → Asks command given → length given.names ≤ 18
@@ -15,6 +18,89 @@ few_names (run settings schema clients) given (_, _, e, few) = omega (arith, ap 
 few_names (audit schema report) given (_, _, e) = omega (arith, ap length e)
 few_names (check schema) given (_, _, e) = omega (arith, ap length e)
 few_names (job seed with_threads) given (_, _, word, e, _, _) = omega (arith, ap length e)
+
+-- a value that names a manager begins with no hyphen
+plain_manager : (o : Option Word) (chosen : Manager) → IsManagerOf o chosen → IsPlainValue o
+plain_manager None chosen is = tt
+plain_manager (Some v) Mursiw is = λ hyphen. let first : slice_index v 0 ≡ 109 = ap (λ w. slice_index w 0) is in omega arith
+plain_manager (Some v) Mvcc is = λ hyphen. let first : slice_index v 0 ≡ 109 = ap (λ w. slice_index w 0) is in omega arith
+
+-- nor does a number
+plain_number : (word : Word) → IsNumeral 10 word → slice_index word 0 ≡ 45 → ⊥
+plain_number [] numeral hyphen = let some = numeral.0 in omega arith
+plain_number (d ∷ ds) numeral hyphen =
+    let digit : digit_value 45 < 10 = subst (λ (c : ℕ). digit_value c < 10) hyphen numeral.1.0 in
+    omega arith
+
+plain_pages : (o : Option Word) (n : ℕ) → ArePagesOf o n → IsPlainValue o
+plain_pages None n is = tt
+plain_pages (Some v) n is = λ hyphen. plain_number v is.0.0 hyphen
+
+no_value : (o : Option Word) → o ≡ None → IsPlainValue o
+no_value o none = subst IsPlainValue (sym none) tt
+
+-- no value that is right for a command begins with a hyphen
+plain_values : (command : Command) (given : Given) → Asks command given → IsPlainValue given.manager_value × IsPlainValue given.pages_value
+plain_values (replay settings schema schedule clients) given (has, _) = (plain_manager given.manager_value settings.manager has.0, plain_pages given.pages_value settings.pages has.1)
+plain_values (run settings schema clients) given (has, _) = (plain_manager given.manager_value settings.manager has.0, plain_pages given.pages_value settings.pages has.1)
+plain_values (audit schema report) given (none, _) = (no_value given.manager_value none.0, no_value given.pages_value none.1)
+plain_values (check schema) given (none, _) = (no_value given.manager_value none.0, no_value given.pages_value none.1)
+plain_values (job seed with_threads) given (none, _) = (no_value given.manager_value none.0, no_value given.pages_value none.1)
+
+-- what stands behind the command's word gives what the command line gives
+behind_gives : (words behind : List Word) (first : Word) (command : Command) (line : IsCommandLine words command) → words ≡ first ∷ behind → Gives behind line.given
+behind_gives words behind first command line e = subst (λ ws. Gives ws line.given) (same_tail (sym line.begins ∙ e)) line.gives
+
+-- the words behind the command's word can be read
+pub readable : (words behind : List Word) (first : Word) (command : Command) → IsCommandLine words command → words ≡ first ∷ behind → IsReadable behind
+readable words behind first command line e = record {
+  given = line.given;
+  gives = behind_gives words behind first command line e;
+  manager_plain = (plain_values command line.given line.asks).0;
+  pages_plain = (plain_values command line.given line.asks).1;
+  few = few_names command line.given line.asks;
+}
+
+-- what is read of a command line asks for its command
+pub asks_again : (words behind : List Word) (first : Word) (command : Command) (read : Given) → IsCommandLine words command → words ≡ first ∷ behind
+    → ((given : Given) → Gives behind given → IsPlainValue given.manager_value → IsPlainValue given.pages_value → read ≡ given)
+    → Gives behind read × AsksBy first read command
+asks_again words behind first command read line e is =
+    let gives = behind_gives words behind first command line e in
+    let plain = plain_values command line.given line.asks in
+    let same : read ≡ line.given = is line.given gives plain.0 plain.1 in (
+      subst (λ (g : Given). Gives behind g) (sym same) gives,
+      same_head (sym e ∙ line.begins),
+      subst (λ (g : Given). Asks command g) (sym same) line.asks,
+    )
+
+-- words that begin so, with what they give, are a command line
+pub line_of : (words behind : List Word) (first : Word) (given : Given) (command : Command) → words ≡ first ∷ behind → Gives behind given → AsksBy first given command → IsCommandLine words command
+line_of words behind first given command e gives asks = record {
+  given = given;
+  behind = behind;
+  begins = e ∙ ap (λ w. w ∷ behind) asks.0;
+  gives = gives;
+  asks = asks.1;
+}
+
+pages_within : (o : Option Word) (n : ℕ) → ArePagesOf o n → (1 ≤ n) × (n ≤ 16384)
+pages_within None n is = (omega arith, omega arith)
+pages_within (Some v) n (_, least, most) = (least, most)
+
+-- what is right for a command is within its limits
+pub within_limits : (command : Command) (given : Given) → Asks command given → IsWithinLimits command
+within_limits (replay settings schema schedule clients) given (has, _, _, few) =
+    let pages = pages_within given.pages_value settings.pages has.1 in (pages.0, pages.1, few)
+within_limits (run settings schema clients) given (has, _, _, few) =
+    let pages = pages_within given.pages_value settings.pages has.1 in (pages.0, pages.1, few)
+within_limits (audit schema report) given asks = tt
+within_limits (check schema) given asks = tt
+within_limits (job seed with_threads) given asks = tt
+
+-- a command line has a word
+pub some_word : (words : List Word) (command : Command) → IsCommandLine words command → words ≡ [] → ⊥
+some_word words command line none = let never : word_of command ∷ line.behind ≡ [] = sym line.begins ∙ none in absurd (omega (arith, ap length never))
 
 same_manager_word : (m n : Manager) → word_of_manager m ≡ word_of_manager n → m ≡ n
 same_manager_word Mursiw Mursiw e = refl

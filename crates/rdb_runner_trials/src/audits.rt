@@ -1,11 +1,11 @@
 //! Worked reports, as the command `audit` judges them.
 
-use crate::tests::status;
-use rdb_base::list::{List, NoMemory};
-use rdb_base::memory_files::MemoryFiles;
+use crate::trial::{failing_sink, files_of, status_of, whole_sink};
+use rdb_base::list::NoMemory;
 use rdb_base::memory_sink::MemorySink;
 use std::alloc::Global;
-use std::test::Fail;
+use std::process::Abort;
+use std::test::*;
 
 const NONE: &str = "declare database shop;";
 
@@ -153,6 +153,102 @@ client 1 done
 total commits 1 reads 0 aborts 0 handled 0
 ";
 
+/// A schema, a report of it, and the line of its counts.
+type Legal<'a> = (&'a str, &'a str, &'a str);
+
+const LEGAL: [Legal<'static>; 11] = [
+    (
+        NONE,
+        NOTHING,
+        "audit commits 0 reads 0 aborts 0 handled 0 closed 0\n",
+    ),
+    (
+        ITEM,
+        MADE_AND_READ,
+        "audit commits 1 reads 0 aborts 0 handled 0 closed 1\n",
+    ),
+    (
+        ITEM,
+        FIRST_CONFLICT,
+        "audit commits 2 reads 0 aborts 1 handled 0 closed 2\n",
+    ),
+    (
+        SORTED,
+        PHANTOM,
+        "audit commits 2 reads 0 aborts 1 handled 0 closed 2\n",
+    ),
+    (
+        INDEXED,
+        STOPPED_WRITER,
+        "audit commits 1 reads 1 aborts 0 handled 1 closed 1\n",
+    ),
+    (
+        ITEM,
+        LATCH_LEFT,
+        "audit commits 1 reads 0 aborts 0 handled 1 closed 1\n",
+    ),
+    (
+        ITEM,
+        CALLED_DEAD,
+        "audit commits 0 reads 0 aborts 0 handled 1 closed 0\n",
+    ),
+    (
+        WORD,
+        PREFIXES,
+        "audit commits 1 reads 0 aborts 0 handled 0 closed 1\n",
+    ),
+    (
+        PLACE,
+        BOXES,
+        "audit commits 1 reads 0 aborts 0 handled 0 closed 1\n",
+    ),
+    (
+        WATCHED,
+        POLLS,
+        "audit commits 2 reads 0 aborts 0 handled 0 closed 2\n",
+    ),
+    (
+        INDEXED,
+        DUPLICATE,
+        "audit commits 1 reads 0 aborts 0 handled 0 closed 1\n",
+    ),
+];
+
+/// A piece of the first conflict's report, what stands there in its place, and the line of the fault.
+type Faulty<'a> = (&'a str, &'a str, &'a str);
+
+const FAULTY: [Faulty<'static>; 9] = [
+    (
+        "snapshot 1\n  get Item 1 -> {5}",
+        "snapshot 1\n  get Item 1 -> {9}",
+        "regiondb: audit entry 2 reply 1\n",
+    ),
+    ("-> done", "-> none", "regiondb: audit entry 2 reply 2\n"),
+    ("commit 2", "commit 3", "regiondb: audit entry 2 number\n"),
+    (
+        "client 1 tx 2",
+        "client 1 tx 1",
+        "regiondb: audit entry 2 twice\n",
+    ),
+    (
+        "closed client 2",
+        "closed client 1",
+        "regiondb: audit entry 5 twice\n",
+    ),
+    (
+        "snapshot 1",
+        "snapshot 0",
+        "regiondb: audit entry 2 place\n",
+    ),
+    ("{5} -> made", "{05} -> made", "regiondb: audit line 2\n"),
+    ("reads 0", "reads 1", "regiondb: audit line 13\n"),
+    (
+        "total commits 2 reads 0 aborts 1 handled 0\n",
+        "",
+        "regiondb: audit line 13\n",
+    ),
+];
+
 /// What the audit of a report for a schema answers and writes.
 fn audited(
     alloc: Global,
@@ -160,76 +256,26 @@ fn audited(
     report: &str,
     out: &mut MemorySink,
 ) -> Result<u8, NoMemory> {
-    let mut files = MemoryFiles::new(alloc, List::new(alloc));
-    files.put("schema", schema.as_bytes())?;
-    files.put("report", report.as_bytes())?;
-    status(alloc, "audit schema report", &mut files, out)
+    let named = [
+        ("schema", schema.as_bytes()),
+        ("report", report.as_bytes()),
+    ];
+    let mut files = files_of(alloc, &named, &[])?;
+    status_of(alloc, "audit schema report", &mut files, out)
+}
+
+/// The audit of a report for a schema ends with this status and writes this line.
+fn is_judged(rt: &impl Abort, alloc: Global, schema: &str, report: &str, status: u8, line: &str) -> Result<(), NoMemory> {
+    let mut out = whole_sink(alloc);
+    assert_eq!(rt; audited(alloc, schema, report, &mut out)?, status, "{line}");
+    assert!(rt; out.bytes() == line.as_bytes(), "{line}");
+    Ok(())
 }
 
 #[test]
 fn each_worked_report_is_legal(rt: HostRuntime) -> Result<(), Fail> {
-    let alloc = rt.alloc();
-    let table = [
-        (
-            NONE,
-            NOTHING,
-            "audit commits 0 reads 0 aborts 0 handled 0 closed 0\n",
-        ),
-        (
-            ITEM,
-            MADE_AND_READ,
-            "audit commits 1 reads 0 aborts 0 handled 0 closed 1\n",
-        ),
-        (
-            ITEM,
-            FIRST_CONFLICT,
-            "audit commits 2 reads 0 aborts 1 handled 0 closed 2\n",
-        ),
-        (
-            SORTED,
-            PHANTOM,
-            "audit commits 2 reads 0 aborts 1 handled 0 closed 2\n",
-        ),
-        (
-            INDEXED,
-            STOPPED_WRITER,
-            "audit commits 1 reads 1 aborts 0 handled 1 closed 1\n",
-        ),
-        (
-            ITEM,
-            LATCH_LEFT,
-            "audit commits 1 reads 0 aborts 0 handled 1 closed 1\n",
-        ),
-        (
-            ITEM,
-            CALLED_DEAD,
-            "audit commits 0 reads 0 aborts 0 handled 1 closed 0\n",
-        ),
-        (
-            WORD,
-            PREFIXES,
-            "audit commits 1 reads 0 aborts 0 handled 0 closed 1\n",
-        ),
-        (
-            PLACE,
-            BOXES,
-            "audit commits 1 reads 0 aborts 0 handled 0 closed 1\n",
-        ),
-        (
-            WATCHED,
-            POLLS,
-            "audit commits 2 reads 0 aborts 0 handled 0 closed 2\n",
-        ),
-        (
-            INDEXED,
-            DUPLICATE,
-            "audit commits 1 reads 0 aborts 0 handled 0 closed 1\n",
-        ),
-    ];
-    for (schema, report, line) in table {
-        let mut out = MemorySink::new(alloc, List::new(alloc), List::new(alloc));
-        assert_eq!(rt; audited(alloc, schema, report, &mut out)?, 0, "{line}");
-        assert!(rt; out.bytes() == line.as_bytes(), "{line}");
+    for (schema, report, line) in LEGAL {
+        is_judged(&rt, rt.alloc(), schema, report, 0, line)?;
     }
     Ok(())
 }
@@ -244,58 +290,17 @@ fn replaced(alloc: Global, old: &str, new: &str) -> Result<String, Fail> {
 
 #[test]
 fn each_fault_of_a_report_is_told(rt: HostRuntime) -> Result<(), Fail> {
-    let alloc = rt.alloc();
-    let table = [
-        (
-            "snapshot 1\n  get Item 1 -> {5}",
-            "snapshot 1\n  get Item 1 -> {9}",
-            "regiondb: audit entry 2 reply 1\n",
-        ),
-        ("-> done", "-> none", "regiondb: audit entry 2 reply 2\n"),
-        ("commit 2", "commit 3", "regiondb: audit entry 2 number\n"),
-        (
-            "client 1 tx 2",
-            "client 1 tx 1",
-            "regiondb: audit entry 2 twice\n",
-        ),
-        (
-            "closed client 2",
-            "closed client 1",
-            "regiondb: audit entry 5 twice\n",
-        ),
-        (
-            "snapshot 1",
-            "snapshot 0",
-            "regiondb: audit entry 2 place\n",
-        ),
-        ("{5} -> made", "{05} -> made", "regiondb: audit line 2\n"),
-        ("reads 0", "reads 1", "regiondb: audit line 13\n"),
-        (
-            "total commits 2 reads 0 aborts 1 handled 0\n",
-            "",
-            "regiondb: audit line 13\n",
-        ),
-    ];
-    for (old, new, line) in table {
-        let report = replaced(alloc, old, new)?;
-        let mut out = MemorySink::new(alloc, List::new(alloc), List::new(alloc));
-        assert_eq!(rt;
-            audited(alloc, ITEM, report.as_str(), &mut out)?,
-            9,
-            "{line}"
-        );
-        assert!(rt; out.bytes() == line.as_bytes(), "{line}");
+    for (old, new, line) in FAULTY {
+        let report = replaced(rt.alloc(), old, new)?;
+        is_judged(&rt, rt.alloc(), ITEM, report.as_str(), 9, line)?;
     }
     Ok(())
 }
 
 #[test]
 fn an_audit_whose_write_fails_leaves_a_prefix(rt: HostRuntime) -> Result<(), Fail> {
-    let alloc = rt.alloc();
-    let failing = List::from_slice(alloc, &[1])?;
-    let taken = List::from_slice(alloc, &[13])?;
-    let mut out = MemorySink::new(alloc, failing, taken);
-    assert_eq!(rt; audited(alloc, ITEM, FIRST_CONFLICT, &mut out)?, 7);
+    let mut out = failing_sink(rt.alloc(), 1, 13)?;
+    assert_eq!(rt; audited(rt.alloc(), ITEM, FIRST_CONFLICT, &mut out)?, 7);
     assert!(rt; out.bytes() == b"audit commits".as_slice());
     Ok(())
 }
