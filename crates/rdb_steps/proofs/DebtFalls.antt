@@ -1,10 +1,11 @@
 -- The number of steps that are left falls as a version gets its stamp, as the drop of one is written, and as a pair is taken back.
-use Rattle.std.proofs.Common.{◌≡◌, ◌<◌, ◌≤◌, ◌+◌, ◌-◌, ◌*◌, ◌==◌, ◌||◌, ◌&&◌, ◌++◌, ◌∷◌, ℕ, List, [], length, drop, Bool, true, false, cond, not, Option, Some, None, IsSome, is_some, is_none, slice_get, refl, sym, ap, subst, ◌∙◌, arith}
+use Rattle.std.proofs.Common.{◌≡◌, ◌<◌, ◌≤◌, ◌+◌, ◌-◌, ◌*◌, ◌==◌, ◌||◌, ◌&&◌, ◌++◌, ◌∷◌, ℕ, List, [], length, drop, Bool, true, false, cond, not, Option, Some, None, IsSome, is_some, is_none, slice_get, refl, sym, ap, subst, ◌∙◌, arith, eqb-true, inl, inr}
 use Rattle.std.proofs.lemmas.Bool.{ne_eqb}
 use Rattle.rdb_base.specs.declared.identity.Manager.{Manager}
 use Rattle.rdb_base.specs.declared.identity.Phase.{Phase}
 use Rattle.rdb_base.specs.declared.identity.Phase.TheVariants as phase
 use Rattle.rdb_cells.specs.declared.pairs.Pair.{Pair}
+use Rattle.rdb_cells.proofs.SettledLemmas.{true_or_false}
 use Rattle.rdb_registry.specs.declared.own_writes.OwnWrite.{OwnWrite}
 use Rattle.rdb_registry.specs.declared.seat.Condemned.{Condemned}
 use Rattle.rdb_registry.specs.declared.seat.Seat.{Seat}
@@ -12,6 +13,7 @@ use Rattle.rdb_transactions.specs.Records.{on_hand}
 use Rattle.rdb_writes.specs.Steps.{spans_one_plan, is_written}
 use Rattle.rdb_steps.specs.Debt.{debt, phase_debt, repair_debt, settled_own}
 use Rattle.rdb_steps.specs.Kept.{is_dropping, is_marked}
+use Rattle.rdb_steps.specs.Repairs.{HoldsUnfinished, set_free}
 use Rattle.rdb_steps.specs.Steps.{forgetting_first}
 use Rattle.rdb_steps.specs.Written.{FallsDebt}
 use Rattle.rdb_steps.proofs.HandKept.{or_first, or_second}
@@ -67,6 +69,10 @@ module _ (manager : Manager) (seat : Seat) where
   pub settled_none : spans_one_plan manager ≡ false → is_marked seat ≡ false → settled_own manager seat ≡ 0
   settled_none single unmarked = λ i. cond (single i || unmarked i) (length seat.hand.own.items) 0
 
+no_pairs : (ps : List Pair) → (length ps == 0) ≡ true → ps ≡ []
+no_pairs [] e = refl
+no_pairs (p ∷ ps) e = let none = eqb-true (length (p ∷ ps)) 0 e in absurd (omega (arith, none))
+
 -- one own write fewer
 pub one_fewer : (ws : List OwnWrite) (w : OwnWrite) → slice_get ws 0 ≡ Some w → length (drop 1 ws) + 1 ≡ length ws
 one_fewer ws w there = let same : length ws ≡ length (w ∷ drop 1 ws) = ap length (first_rest ws w there) in more (drop 1 ws) (length ws) same
@@ -93,3 +99,22 @@ stamp_falls manager seat first marked stamps there =
   where
     less : (n m k : ℕ) → n + 1 ≡ m → 1027 * n + 1 + k < 1027 * m + 1 + k
     less n m k e = omega (arith, e)
+
+-- a condemned record gives up what it holds, which has nothing to take back
+pub release_falls : (manager : Manager) (seat : Seat) → IsSome seat.condemned → seat.hand.undo.pairs ≡ [] → (is_marked seat ≡ true → seat.hand.plan.pairs ≡ []) → HoldsUnfinished seat → FallsDebt manager seat (set_free seat)
+release_falls manager seat condemned empty idle holds =
+    falls_by_repair manager seat (set_free seat) (λ versions pages. condemned_debt manager seat versions pages condemned) (λ versions pages. condemned_debt manager (set_free seat) versions pages condemned)
+    (elim (true_or_false (is_marked seat)) [
+      | inl marked ↦
+          let was = marked_debt manager seat marked ∙ ap (λ (b : Bool). 1027 * settled_own manager seat + 1 + cond b 0 1) (ne_eqb seat.latches 0 (holds.some (idle marked))) in
+          let is = marked_debt manager (set_free seat) marked in
+          omega (arith, was, is)
+      | inr unmarked ↦
+          let was = holding_debt manager seat unmarked holds.quiet (ap length empty) true (held (length seat.hand.plan.pairs == 0) refl) in
+          let is = holding_debt manager (set_free seat) unmarked refl (ap length empty) false refl in
+          omega (arith, was, is)
+    ])
+  where
+    held : (b : Bool) → (length seat.hand.plan.pairs == 0) ≡ b → (not (is_written seat.hand) || not (seat.latches == 0)) ≡ true
+    held true e = or_second (not (is_written seat.hand)) _ (ap not (ne_eqb seat.latches 0 (holds.some (no_pairs seat.hand.plan.pairs e))))
+    held false e = or_first (not (is_written seat.hand)) _ (ap not e)

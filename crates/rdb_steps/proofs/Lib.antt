@@ -49,3 +49,6 @@ pub mod DoneChains
 pub mod StampKept
 pub mod StateStamps
 pub mod DebtFalls
+pub mod FreeLemmas
+pub mod RepairWhole
+pub mod StateRepairs

@@ -80,8 +80,11 @@ marked_stamps seat phase.Condemned q marked = absurd q
 marked_stamps seat phase.Absent q marked = absurd q
 
 -- what is said of the versions by the transaction and its commit
+abbrev with_done : Seat → Transaction → ℕ → OwnWrite → Versions → Versions → Versions
+with_done seat t commit first settled versions = with_chain_in versions first.class first.id (done_by (tx_of seat t) commit (chain_in settled first.class first.id))
+
 stamped_is : (seat : Seat) (t : Transaction) (commit : ℕ) (first : OwnWrite) (rest : List OwnWrite) (settled versions : Versions) → seat.transaction ≡ Some t → seat.hand.own.items ≡ first ∷ rest → t.mark ≡ Some commit →
-    first_stamped (Some seat) settled versions ≡ with_chain_in versions first.class first.id (done_by (tx_of seat t) commit (chain_in settled first.class first.id))
+    first_stamped (Some seat) settled versions ≡ with_done seat t commit first settled versions
 stamped_is seat t commit first rest settled versions opened items mark =
     (λ i. first_stamped (Some (record seat { transaction = opened i; hand = record seat.hand { own = record seat.hand.own { items = items i } } })) settled versions)
     ∙ (λ i. first_stamped (Some (record seat { transaction = Some (record t { mark = mark i }); hand = record seat.hand { own = record seat.hand.own { items = first ∷ rest } } })) settled versions)
@@ -214,16 +217,12 @@ module _ {P : Type 0} (s : State P) (c : ConnId) (seat : Seat) (first : OwnWrite
         keeps_stamped =
             subst (λ (o : Option Seat). IsKept s.schema s.transactions.manager s.counters.serials s.counters.ids.items (ground_in memory now) (first_stamped o settled settled) (first_stamped o settled aimed)) (sym held)
             (subst (λ (vs : Versions). IsKept s.schema s.transactions.manager s.counters.serials s.counters.ids.items (ground_in memory now) vs (first_stamped (Some seat) settled aimed)) (sym (as_said settled))
-            (subst (λ (vs : Versions). IsKept s.schema s.transactions.manager s.counters.serials s.counters.ids.items (ground_in memory now) (with_done settled) vs) (sym (as_said aimed))
-            (subst (λ (seats : Seats). IsKept s.schema s.transactions.manager s.counters.serials s.counters.ids.items (record { image = image_of memory; class_of = class_of memory; seats = seats }) (with_done settled) (with_done aimed)) (sym seats_are)
+            (subst (λ (vs : Versions). IsKept s.schema s.transactions.manager s.counters.serials s.counters.ids.items (ground_in memory now) (with_done seat tx.0 commit first settled settled) vs) (sym (as_said aimed))
+            (subst (λ (seats : Seats). IsKept s.schema s.transactions.manager s.counters.serials s.counters.ids.items (record { image = image_of memory; class_of = class_of memory; seats = seats }) (with_done seat tx.0 commit first settled settled) (with_done seat tx.0 commit first settled aimed)) (sym seats_are)
             (stamped_kept s.schema s.transactions.manager s.counters.serials s.counters.ids.items (ground_of s) c seat tx.0 commit first settled aimed whole.lawful placed kept is_at free
             (image_of memory) (class_of memory) writes (forgetting_first seat.hand) refl gone others))))
           where
-            with_done : Versions → Versions
-            with_done versions = with_chain_in versions first.class first.id (done_by (tx_of seat tx.0) commit (chain_in settled first.class first.id))
-
-            as_said : (versions : Versions) → first_stamped (Some seat) settled versions ≡ with_done versions
-            unfolding with_done
+            as_said : (versions : Versions) → first_stamped (Some seat) settled versions ≡ with_done seat tx.0 commit first settled versions
             as_said versions = stamped_is seat tx.0 commit first (drop 1 seat.hand.own.items) settled versions tx.1.0 (first_rest seat.hand.own.items first was) tx.1.1
 
             gone : header_of (drop 1 seat.hand.own.items) (first.class, first.id) ≡ None

@@ -13,3 +13,4 @@ pub mod Rooms
 pub mod LaidPlans
 pub mod Written
 pub mod Stamps
+pub mod Repairs

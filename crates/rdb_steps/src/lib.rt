@@ -19,6 +19,7 @@ mod grant;
 mod laws;
 mod moves;
 mod plan_laws;
+mod release;
 mod rooms;
 mod stamp;
 mod state;
