@@ -1,5 +1,5 @@
 -- The room that records have, as a transaction begins or ends: the single writer's undo record is lent to it, and given back.
-use Rattle.std.proofs.Common.{◌≡◌, ◌≢◌, ◌<◌, ◌≤◌, ◌+◌, ◌*◌, ◌++◌, ◌∷◌, ◌||◌, ◌×◌, ℕ, zero, suc, List, [], length, set, Bool, true, false, not, cond, Option, Some, None, is_some, is_none, option_map, option_and_then, append-nil, refl, sym, ap, subst, ◌∙◌, arith, mul-one, inl, inr}
+use Rattle.std.proofs.Common.{◌≡◌, ◌≢◌, ◌<◌, ◌≤◌, ◌+◌, ◌*◌, ◌++◌, ◌∷◌, ◌||◌, ℕ, zero, suc, List, [], length, set, Bool, true, false, not, cond, Option, Some, None, is_some, is_none, option_map, option_and_then, append-nil, refl, sym, ap, subst, ◌∙◌, arith, mul-one, inl, inr}
 use Rattle.std.proofs.Math.Nat.{mul-le-mul_left}
 use Rattle.std.proofs.lemmas.Bool.{false≢true}
 use Rattle.std.proofs.Permutation.{which}
@@ -37,7 +37,7 @@ use Rattle.rdb_steps.proofs.MoveLemmas.{of_one, of_none}
 use Rattle.rdb_steps.proofs.RoomLemmas.{MovesSlot, by_transaction, fewer_stay, furnished_stay, none_open, planned_few, spare_stays, within_of}
 
 -- the same with the spare undo record that was before
-pub as_before : Transactions → Transactions → Transactions
+abbrev as_before : Transactions → Transactions → Transactions
 as_before before after = record after { spare_undo = before.spare_undo }
 
 -- what stands in a slot is another record, or none, and the spare undo record that is there now fits
@@ -94,7 +94,7 @@ module _ (before after : Transactions) (slot : ℕ) (was now : Option Seat) (mor
       there before.registry.seats slot now s (sym (ap (λ (seats : Seats). seat_in seats slot) m.seats) ∙ sym (ap (seat_in after.registry.seats) same) ∙ is)
 
 -- A transaction begins.
-begun_seat : Manager → Record → ℕ → Kind → ℕ → ℕ → Seat → Seat
+abbrev begun_seat : Manager → Record → ℕ → Kind → ℕ → ℕ → Seat → Seat
 begun_seat m spare classes wanted begun snapshot seat = exchanged m spare (latched m classes (opened wanted begun snapshot seat))
 
 furnished_begun : (schema : Schema) (m : Manager) (cells classes : ℕ) (spare : Record) (wanted : Kind) (begun snapshot : ℕ) (seat : Seat) → IsFurnished schema m cells seat → IsIdle seat →
@@ -133,7 +133,7 @@ fits_begun : (m : Manager) (wanted : Kind) (schema : Schema) (cells classes begu
     MayBegin m before.registry.seats slot wanted → SpareFits cells before → SpareFits cells after
 fits_begun manager.Mvcc wanted schema cells classes begun snapshot before after slot seat is is_now lends m idle f may fits = none_lent cells after is_now
 fits_begun manager.Mursiw kind.ReadOnly schema cells classes begun snapshot before after slot seat is is_now lends m idle f may fits =
-    same_spare cells before after lends (spare_stays before (as_before before after) slot (Some seat) (Some (opened kind.ReadOnly begun snapshot seat)) [] m cells refl
+    same_spare cells before after lends (spare_stays before (as_before before after) slot (Some seat) (Some (opened kind.ReadOnly begun snapshot seat)) [] m cells
     (of_one (λ (s : Seat). ((x : Seat) → Some (opened kind.ReadOnly begun snapshot seat) ≡ Some x → is_single_writer before.manager x ≡ false) → is_single_writer before.manager s ≡ false) seat
     (λ all. none_open before.manager seat idle.transaction))
     (of_one (λ (x : Seat). is_single_writer before.manager x ≡ true → (s : Seat) × (Some seat ≡ Some s) × (is_single_writer before.manager s ≡ true)) (opened kind.ReadOnly begun snapshot seat)
@@ -263,7 +263,7 @@ fits_ended manager.Mursiw schema cells before after slot seat last now more is i
       ];
     }
     go false reads left =
-        same_spare cells before after left (spare_stays before (as_before before after) slot (Some seat) now more m cells refl
+        same_spare cells before after left (spare_stays before (as_before before after) slot (Some seat) now more m cells
         (of_one (λ (s : Seat). ((x : Seat) → now ≡ Some x → is_single_writer before.manager x ≡ false) → is_single_writer before.manager s ≡ false) seat
         (λ all. ap (λ (k : Manager). is_single_writer k seat) is ∙ sym same ∙ reads))
         (λ x at again. absurd (false≢true (sym (none x at) ∙ sym (ap (λ (k : Manager). is_single_writer k x) is) ∙ again)))

@@ -149,7 +149,7 @@ pub by_transaction : (m : Manager) (a b : Seat) → a.transaction ≡ b.transact
 by_transaction manager.Mursiw a b same = ap (λ (o : Option Transaction). option_map_or (λ t. may_write t.kind) o false) same
 by_transaction manager.Mvcc a b same = refl
 
-none_open : (m : Manager) (s : Seat) → s.transaction ≡ None → is_single_writer m s ≡ false
+pub none_open : (m : Manager) (s : Seat) → s.transaction ≡ None → is_single_writer m s ≡ false
 none_open manager.Mursiw s none = ap (λ (o : Option Transaction). option_map_or (λ t. may_write t.kind) o false) none
 none_open manager.Mvcc s none = refl
 
@@ -172,7 +172,7 @@ fewer_puts n false true follows had = omega (arith, had)
 fewer_puts n false false follows had = had
 
 -- a record plans no more than a transaction may
-planned_few : (schema : Schema) (m : Manager) (cells : ℕ) (s : Seat) → IsFurnished schema m cells s → planned_by s ≤ MAX_OPERATIONS
+pub planned_few : (schema : Schema) (m : Manager) (cells : ℕ) (s : Seat) → IsFurnished schema m cells s → planned_by s ≤ MAX_OPERATIONS
 planned_few schema m cells s furnished = go (not (is_unmarked s)) (is_some s.condemned) (is_rolling_back s.hand.phase)
   where
     so_far : planned_so_far s ≤ MAX_OPERATIONS
