@@ -1,20 +1,24 @@
 -- The number of steps that are left falls as a version gets its stamp, as the drop of one is written, and as a pair is taken back.
-use Rattle.std.proofs.Common.{◌≡◌, ◌<◌, ◌≤◌, ◌+◌, ◌-◌, ◌*◌, ◌==◌, ◌||◌, ◌&&◌, ◌++◌, ◌∷◌, ℕ, List, [], length, drop, Bool, true, false, cond, not, Option, Some, None, IsSome, is_some, is_none, slice_get, refl, sym, ap, subst, ◌∙◌, arith, eqb-true, inl, inr}
-use Rattle.std.proofs.lemmas.Bool.{ne_eqb}
+use Rattle.std.proofs.Common.{◌≡◌, ◌<◌, ◌≤◌, ◌+◌, ◌-◌, ◌*◌, ◌==◌, ◌||◌, ◌&&◌, ◌++◌, ◌∷◌, ℕ, zero, suc, List, [], length, drop, Bool, true, false, cond, not, Option, Some, None, IsSome, is_some, is_none, slice_get, refl, sym, ap, subst, ◌∙◌, arith, eqb-true, inl, inr}
+use Rattle.std.proofs.lemmas.Bool.{false≢true, ne_eqb}
 use Rattle.rdb_base.specs.declared.identity.Manager.{Manager}
 use Rattle.rdb_base.specs.declared.identity.Phase.{Phase}
 use Rattle.rdb_base.specs.declared.identity.Phase.TheVariants as phase
+use Rattle.rdb_base.specs.Room.{Reserved}
 use Rattle.rdb_cells.specs.declared.pairs.Pair.{Pair}
+use Rattle.rdb_cells.specs.Records.{Record}
 use Rattle.rdb_cells.proofs.SettledLemmas.{true_or_false}
+use Rattle.rdb_registry.specs.declared.hand.Hand.{Hand}
 use Rattle.rdb_registry.specs.declared.own_writes.OwnWrite.{OwnWrite}
 use Rattle.rdb_registry.specs.declared.seat.Condemned.{Condemned}
 use Rattle.rdb_registry.specs.declared.seat.Seat.{Seat}
+use Rattle.rdb_transactions.specs.Hands.{given_up, with_undo}
 use Rattle.rdb_transactions.specs.Records.{on_hand}
 use Rattle.rdb_writes.specs.Steps.{spans_one_plan, is_written}
 use Rattle.rdb_steps.specs.Debt.{debt, phase_debt, repair_debt, settled_own}
 use Rattle.rdb_steps.specs.Kept.{is_dropping, is_marked}
-use Rattle.rdb_steps.specs.Repairs.{HoldsUnfinished, set_free}
-use Rattle.rdb_steps.specs.Steps.{forgetting_first}
+use Rattle.rdb_steps.specs.Repairs.{HoldsUnfinished, left_hand, repaired, set_free}
+use Rattle.rdb_steps.specs.Steps.{forgetting_first, forgetting_own}
 use Rattle.rdb_steps.specs.Written.{FallsDebt}
 use Rattle.rdb_steps.proofs.HandKept.{or_first, or_second}
 use Rattle.rdb_steps.proofs.OrderedLemmas.{first_rest}
@@ -118,3 +122,73 @@ release_falls manager seat condemned empty idle holds =
     held : (b : Bool) → (length seat.hand.plan.pairs == 0) ≡ b → (not (is_written seat.hand) || not (seat.latches == 0)) ≡ true
     held true e = or_second (not (is_written seat.hand)) _ (ap not (ne_eqb seat.latches 0 (holds.some (no_pairs seat.hand.plan.pairs e))))
     held false e = or_first (not (is_written seat.hand)) _ (ap not e)
+
+-- what is left of the record that is repaired
+pub left_only : (manager : Manager) (h : Hand) → left_hand manager h ≡ record h { own = (left_hand manager h).own }
+left_only manager h = go (spans_one_plan manager) (length h.undo.pairs == 0)
+  where
+    go : (b e : Bool) → cond b h (cond e (record h { own = record { items = []; room = h.own.room + length h.own.items } }) h)
+        ≡ record h { own = (cond b h (cond e (record h { own = record { items = []; room = h.own.room + length h.own.items } }) h)).own }
+    go true e = refl
+    go false true = refl
+    go false false = refl
+
+pub left_many : (manager : Manager) (h : Hand) → spans_one_plan manager ≡ true → left_hand manager h ≡ h
+left_many manager h many = ap (λ (b : Bool). cond b h (forgetting_own h)) many
+
+-- its newest pair is taken back
+module _ (manager : Manager) (seat : Seat) (undo : Record) where
+  pub left_own : Reserved OwnWrite
+  left_own = (left_hand manager (given_up (with_undo undo seat.hand))).own
+
+  pub left_latches : ℕ
+  left_latches = cond (length undo.pairs == 0) 0 seat.latches
+
+  pub repaired_is : repaired manager undo seat
+      ≡ record seat { latches = left_latches; hand = record seat.hand { undo = undo; plan = record seat.hand.plan { pairs = [] }; work = None; own = left_own } }
+  unfolding left_latches left_own
+  repaired_is = ap (λ (x : Hand). record seat { latches = cond (length undo.pairs == 0) 0 seat.latches; hand = x }) (left_only manager (given_up (with_undo undo seat.hand)))
+
+  pub own_many : spans_one_plan manager ≡ true → left_own ≡ seat.hand.own
+  unfolding left_own
+  own_many many = ap (λ (x : Hand). x.own) (left_many manager (given_up (with_undo undo seat.hand)) many)
+
+  settled_left : is_marked seat ≡ false →
+      settled_own manager (record seat { latches = left_latches; hand = record seat.hand { undo = undo; plan = record seat.hand.plan { pairs = [] }; work = None; own = left_own } }) ≤ settled_own manager seat
+  settled_left unmarked = elim (true_or_false (spans_one_plan manager)) [
+    | inl many ↦
+        let was = settled_all manager seat (or_first (spans_one_plan manager) _ many) in
+        let is = settled_all manager (record seat { latches = left_latches; hand = record seat.hand { undo = undo; plan = record seat.hand.plan { pairs = [] }; work = None; own = left_own } }) (or_first (spans_one_plan manager) _ many) in
+        let same : length left_own.items ≡ length seat.hand.own.items = ap (λ (o : Reserved OwnWrite). length o.items) (own_many many) in
+        omega (arith, was, is, same)
+    | inr single ↦
+        let is = settled_none manager (record seat { latches = left_latches; hand = record seat.hand { undo = undo; plan = record seat.hand.plan { pairs = [] }; work = None; own = left_own } }) single unmarked in
+        omega (arith, is)
+  ]
+
+  less : is_marked seat ≡ false → is_dropping seat.hand ≡ false → length undo.pairs + 1 ≡ length seat.hand.undo.pairs →
+      repair_debt manager (record seat { latches = left_latches; hand = record seat.hand { undo = undo; plan = record seat.hand.plan { pairs = [] }; work = None; own = left_own } }) < repair_debt manager seat
+  unfolding left_latches
+  less unmarked quiet shorter =
+      let was = taking_debt manager seat unmarked quiet (omega (arith, shorter)) in
+      let fewer = settled_left unmarked in
+      elim (true_or_false (length undo.pairs == 0)) [
+        | inl none ↦
+            let is = holding_debt manager (record seat { latches = left_latches; hand = record seat.hand { undo = undo; plan = record seat.hand.plan { pairs = [] }; work = None; own = left_own } })
+            unmarked refl (eqb-true (length undo.pairs) 0 none) false (λ i. not (cond (none i) 0 seat.latches == 0)) in
+            omega (arith, was, is, fewer, shorter)
+        | inr some ↦
+            let is = taking_debt manager (record seat { latches = left_latches; hand = record seat.hand { undo = undo; plan = record seat.hand.plan { pairs = [] }; work = None; own = left_own } })
+            unmarked refl (above (length undo.pairs) some) in
+            omega (arith, was, is, fewer, shorter)
+      ]
+    where
+      above : (n : ℕ) → (n == 0) ≡ false → 0 < n
+      above zero e = absurd (false≢true (sym e))
+      above (suc n) e = omega arith
+
+  pub repair_falls : IsSome seat.condemned → is_marked seat ≡ false → is_dropping seat.hand ≡ false → length undo.pairs + 1 ≡ length seat.hand.undo.pairs → FallsDebt manager seat (repaired manager undo seat)
+  repair_falls condemned unmarked quiet shorter =
+      falls_by_repair manager seat (repaired manager undo seat) (λ versions pages. condemned_debt manager seat versions pages condemned)
+      (λ versions pages. condemned_debt manager (repaired manager undo seat) versions pages condemned)
+      (subst (λ (x : Seat). repair_debt manager x < repair_debt manager seat) (sym repaired_is) (less unmarked quiet shorter))

@@ -51,4 +51,6 @@ pub mod StateStamps
 pub mod DebtFalls
 pub mod FreeLemmas
 pub mod RepairWhole
+pub mod RepairLemmas
+pub mod NearDrops
 pub mod StateRepairs

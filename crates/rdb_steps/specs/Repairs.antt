@@ -3,14 +3,17 @@ use Rattle.std.specs.Prelude.{◌≡◌, ◌≢◌, false, ◌+◌, ◌==◌, �
 use Rattle.rdb_base.specs.declared.identity.ConnId.{ConnId}
 use Rattle.rdb_base.specs.declared.identity.Manager.{Manager}
 use Rattle.rdb_cells.specs.declared.pairs.Pair.{Pair}
+use Rattle.rdb_cells.specs.Images.{Writes}
 use Rattle.rdb_cells.specs.Records.{Record}
 use Rattle.rdb_registry.specs.declared.hand.Hand.{Hand}
 use Rattle.rdb_registry.specs.declared.seat.Seat.{Seat}
 use Rattle.rdb_registry.specs.Seats.{seat_of}
+use Rattle.rdb_space.specs.Memory.{RegionCells, image_of}
 use Rattle.rdb_transactions.specs.declared.transactions.Transactions.{Transactions}
 use Rattle.rdb_transactions.specs.Hands.{given_up, with_undo}
 use Rattle.rdb_transactions.specs.Records.{edited}
 use Rattle.rdb_writes.specs.Steps.{spans_one_plan}
+use Rattle.rdb_steps.specs.declared.state.State.{State}
 use Rattle.rdb_steps.specs.Kept.{is_dropping}
 use Rattle.rdb_steps.specs.Steps.{forgetting_own}
 
@@ -49,6 +52,15 @@ left manager seat =
 abbrev pub repaired : Manager → Record → Seat → Seat
 repaired manager undo seat = left manager (record seat { hand = given_up (with_undo undo seat.hand) })
 
--- the undo record is without its newest pair
-abbrev pub LosesNewest : Record → Record → Type 0
-LosesNewest before after = (newest : Pair) × (before ≡ record after { pairs = after.pairs ++ newest ∷ [] })
+-- The newest pair of a record is taken back, and the record is repaired so far.
+pub record TakesBackNewest (manager : Manager) (before after : RegionCells) (was now : Transactions) (c : ConnId) : Type 0 where
+  pub seat : Seat
+  pub newest : Pair
+  pub undo : Record
+  pub shorter : seat.hand.undo ≡ record undo { pairs = undo.pairs ++ newest ∷ [] }
+  pub cell : Writes (image_of before) (image_of after) newest.at.number newest.cell
+  pub repairs : Repairs was now c seat (repaired manager undo)
+
+-- so it is of the states before and after a step
+abbrev pub Repaired : {P : Type 0} → State P → State P → ConnId → Type 0
+Repaired before after c = TakesBackNewest before.transactions.manager before.memory after.memory before.transactions after.transactions c

@@ -20,6 +20,7 @@ mod laws;
 mod moves;
 mod plan_laws;
 mod release;
+mod repair;
 mod rooms;
 mod stamp;
 mod state;

@@ -68,6 +68,7 @@ impl<P: Pages> State<P> {
         ensures record { OnlyRecord self.old self.new c }
         ensures becomes { WrittenDrop self.old self.new c }
         ensures counts { KeepsCounts self.old self.new }
+        ensures nearer { ComesNearer self.old self.new c }
         ensures whole { IsWhole self.new }
     {
         self.transactions.registry.sound();

@@ -1,7 +1,10 @@
-use Rattle.std.proofs.Common.{refl}
+use Rattle.std.proofs.Common.{IsSome}
 use Rattle.rdb_steps.proofs.FreeLemmas.{state_freed, record_freed, still_held}
-use Rattle.rdb_steps.proofs.StateRepairs.{nearer_freed, whole_freed}
+use Rattle.rdb_steps.proofs.StateRepairs.{freed_claimed, nearer_freed, whole_freed}
 use Rattle.rdb_steps.proofs.state.State.release.Goals as goal
+
+pub give_up_work-requires : goal.give_up_work-requires
+give_up_work-requires g c = freed_claimed c.args.self.now c.args.d (λ seat. IsSome seat.condemned) c.requires.whole c.requires.condemned
 
 pub release_latches-requires : goal.release_latches-requires
 release_latches-requires g c = still_held c.args.self.now.transactions c.give_up_work.new.t c.args.d c.give_up_work.ensures
