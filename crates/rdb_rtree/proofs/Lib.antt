@@ -20,3 +20,5 @@ pub mod LowerLemmas
 pub mod ShrinkLemmas
 pub mod SearchLemmas
 pub mod RemoveLemmas
+pub mod FreeCells
+pub mod EmptyRtree
