@@ -114,7 +114,7 @@ runs_joined schema p q end [] ys h on = subst (λ (at : Progress). Runs schema a
 runs_joined schema p q end (x ∷ xs) ys h on = (h.0, h.1, runs_joined schema h.0 q end xs ys h.2 on)
 
 -- an entry before its first operation
-bare : Entry → Entry
+abbrev bare : Entry → Entry
 bare (entry.Commit story commit) = entry.Commit (record story { done = [] }) commit
 bare (entry.Read story) = entry.Read (record story { done = [] })
 bare (entry.Abort story why) = entry.Abort (record story { done = [] }) why
@@ -143,7 +143,7 @@ bare_steps (entry.Handled client by at finished) = refl
 bare_steps (entry.Closed client) = refl
 
 -- an entry with operations more
-with_steps : List (Op × Reply) → Entry → Entry
+abbrev with_steps : List (Op × Reply) → Entry → Entry
 with_steps [] e = e
 with_steps (step ∷ steps) e = with_steps steps (with_step step e)
 
@@ -168,7 +168,7 @@ restored (entry.Handled client by at finished) = refl
 restored (entry.Closed client) = refl
 
 -- behind an entry and its operations
-put : Progress → Entry → Progress
+abbrev put : Progress → Entry → Progress
 put p e = record p { journal = entries p; last = Some e }
 
 steps_run : (schema : Schema) (may : Kind) (steps : List (Op × Reply)) (p : Progress) (e : Entry) → p.section ≡ section.Entries → kind_of e ≡ Some may → All (IsPrintableStep schema may) steps
@@ -201,7 +201,7 @@ entry_runs schema p e s h = (
 )
 
 -- behind entries
-behind : Progress → List Entry → Progress
+abbrev behind : Progress → List Entry → Progress
 behind p [] = p
 behind p (e ∷ es) = behind (put p e) es
 
@@ -237,7 +237,7 @@ entries_go_on : section.Entries ≢ section.Over
 entries_go_on e = absurd (cc)
 
 -- behind clients
-ended : Progress → List (End × List Note) → Progress
+abbrev ended : Progress → List (End × List Note) → Progress
 ended p [] = p
 ended p (c ∷ cs) = ended (after p (says.End c.0)) cs
 
