@@ -46,6 +46,15 @@ kept_under s u settled aimed same keeps =
 pub placed_in : (roll : Roll) → IsRoll roll → ArePlaced roll.seats
 placed_in roll is slot seat at = (is.seated slot seat at).place
 
+-- nothing changes
+pub unchanged : (t u : Transactions) → u ≡ t → IsSame t u
+unchanged t u e = record {
+  manager = ap (λ x. x.manager) e;
+  registry = ap (λ x. x.registry) e;
+  entries = ap (λ x. x.journal.entries) e;
+  spare = ap (λ x. x.spare_undo) e;
+}
+
 -- nothing changes but the journal's room
 pub kept_same : {P : Type 0} (s : State P) (u : Transactions) → IsSame s.transactions u → (settled aimed : Versions) → Keeps s settled aimed → Keeps (record s { transactions = u }) settled aimed
 kept_same s u same settled aimed keeps =
