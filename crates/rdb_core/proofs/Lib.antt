@@ -1,2 +1,3 @@
 pub mod MovedLemmas
 pub mod SessionLemmas
+pub mod EventLemmas
