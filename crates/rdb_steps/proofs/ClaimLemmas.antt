@@ -1,9 +1,9 @@
 -- The claim of an operation: free cells for it, and how small it is.
-use Rattle.std.proofs.Common.{◌≡◌, ◌<◌, ◌≤◌, ◌+◌, ◌*◌, ◌∷◌, ℕ, zero, suc, List, [], length, map, take, sum_by, All, Option, Some, None, slice_get, refl, sym, ap, subst, ◌∙◌, arith}
+use Rattle.std.proofs.Common.{◌≡◌, ◌<◌, ◌≤◌, ◌+◌, ◌*◌, ◌∷◌, ℕ, zero, suc, List, [], length, map, take, get_or, sum_by, All, Option, Some, None, slice_get, refl, sym, ap, subst, ◌∙◌, arith}
 use Rattle.std.specs.List.{AllByRecursion}
 use Rattle.std.specs.List.Sorted.{IsStrictlySortedBy}
 use Rattle.std.specs.Option.{option_map_or}
-use Rattle.std.specs.Ordering.{Ordering, nat_cmp}
+use Rattle.std.specs.Ordering.{nat_cmp}
 use Rattle.std.proofs.lemmas.List.{length-take}
 use Rattle.std.proofs.lemmas.List.Sums.{sum_by-cons, sum_by-le}
 use Rattle.std.proofs.lemmas.Option.{get_or_from_slice_get, slice_get_within}
@@ -18,7 +18,6 @@ use Rattle.rdb_schema.specs.Indexes.{indexes_of}
 use Rattle.rdb_schema.specs.Limits.{IsSmallClass}
 use Rattle.rdb_schema.specs.Schemas.{IsSchema}
 use Rattle.rdb_cells.specs.Images.{Image}
-use Rattle.rdb_cells.specs.Records.{max_plan}
 use Rattle.rdb_cells.specs.Untaken.{HasUntaken}
 use Rattle.rdb_space.specs.Claim.{claim_of, claim_of_row, index_part, part_of_kind, row_cells}
 use Rattle.rdb_space.specs.Memory.{HasFree}
@@ -50,7 +49,7 @@ untaken_free image class_of class count many f enough = record {
   ascending = ascending_taken many f.free f.listed.ascending;
   untaken = λ i n there.
       let free = f.listed.listed i n (taken_there many f.free i n there) in
-      record { above = free.page.0; free = free; unplanned = refl };
+      record { above = (let page = free.page.0 in omega (arith, page)); free = free; unplanned = refl };
 }
 
 -- the parts of the indexes of a class are those of its shape
@@ -81,14 +80,14 @@ few_indexes schema class is = go (slice_get schema.classes class) refl
     go None at = omega arith
     go (Some k) at = (all_at IsSmallClass schema.classes class k is.limits.classes at).indexes
 
-row_claim_small : (schema : Schema) (class bytes : ℕ) → IsSchema schema → bytes ≤ 4000 → claim_of_row schema class bytes ≤ max_plan
+row_claim_small : (schema : Schema) (class bytes : ℕ) → IsSchema schema → bytes ≤ 4000 → claim_of_row schema class bytes ≤ 1024
 row_claim_small schema class bytes is short =
     let few = few_indexes schema class is in
-    let parts = sum_by-le index_part 12 (indexes_of schema class) (λ k d lt. part_small _) in
+    let parts = sum_by-le index_part 12 (indexes_of schema class) (λ k d lt. part_small (get_or (indexes_of schema class) k d).kind) in
     let cells : row_cells bytes ≤ 68 = omega (arith, short) in
     omega (arith, few, parts, cells)
 
-pub claim_small : (schema : Schema) (o : Op) (bytes : ℕ) → IsSchema schema → bytes ≤ 4000 → claim_of schema o bytes ≤ max_plan
+pub claim_small : (schema : Schema) (o : Op) (bytes : ℕ) → IsSchema schema → bytes ≤ 4000 → claim_of schema o bytes ≤ 1024
 claim_small schema (op.New class row id) bytes is short = row_claim_small schema class bytes is short
 claim_small schema (op.Put class id row) bytes is short = row_claim_small schema class bytes is short
 claim_small schema (op.Del class id) bytes is short = omega arith

@@ -20,7 +20,7 @@ use Rattle.rdb_steps.specs.Kept.{is_rolling_back}
 use Rattle.rdb_steps.specs.States.{IsWhole, cell_count, ever_planned, planned_by, planned_in, planned_so_far}
 use Rattle.rdb_steps.proofs.RoomLemmas.{planned_few}
 
-planned_sum : (seats : Seats) → ((i : ℕ) (x : Seat) → seat_in seats i ≡ Some x → planned_by x ≤ MAX_OPERATIONS) → sum_by planned_in seats ≤ MAX_OPERATIONS * length seats
+planned_sum : (seats : Seats) → ((i : ℕ) (x : Seat) → seat_in seats i ≡ Some x → planned_by x ≤ 1000) → sum_by planned_in seats ≤ 1000 * length seats
 planned_sum [] few = omega arith
 planned_sum (None ∷ seats) few =
     let rest = planned_sum seats (λ i x there. few (suc i) x there) in
@@ -33,21 +33,22 @@ planned_sum (Some x ∷ seats) few =
     omega (arith, rest, here, sums)
 
 -- so many operations are ever planned, at most
-pub ever_few : {P : Type 0} (s : State P) → IsWhole s → IsRoll s.transactions.registry → ever_planned s.transactions ≤ MAX_OPERATIONS * MAX_PLACES + MAX_OPERATIONS * 32
+pub ever_few : {P : Type 0} (s : State P) → IsWhole s → IsRoll s.transactions.registry → ever_planned s.transactions ≤ 17592186044448000
 ever_few s whole roll =
+    let is : ever_planned s.transactions ≡ 1000 * length s.transactions.journal.entries + sum_by planned_in s.transactions.registry.seats = refl in
     let sums = planned_sum s.transactions.registry.seats (λ i x there. planned_few s.schema s.transactions.manager (cell_count s.schema s.memory) x (whole.furnished i x there)) in
-    let slots = roll.count in
-    let limit = whole.sound.claims.room.limit in
-    omega (arith, sums, slots, limit)
+    let slots : length s.transactions.registry.seats ≡ 32 = roll.count in
+    let limit : length s.transactions.journal.entries + s.transactions.journal.room ≤ 17592186044416 = whole.sound.claims.room.limit in
+    omega (arith, is, sums, slots, limit)
 
 pub serial_fits : {P : Type 0} (s : State P) → IsWhole s → IsRoll s.transactions.registry → s.counters.serials + 1 < 2 ^ 64
-serial_fits s whole roll = let few = ever_few s whole roll in let drawn = whole.fewer.serials in omega (arith, few, drawn)
+serial_fits s whole roll = let few = ever_few s whole roll in let drawn = whole.fewer.serials in let big : 2 ^ 64 ≡ 18446744073709551616 = refl in omega (arith, few, drawn, big)
 
 pub id_fits : {P : Type 0} (s : State P) (class : ℕ) → IsWhole s → IsRoll s.transactions.registry → slice_index s.counters.ids.items class + 1 < 2 ^ 64
-id_fits s class whole roll = let few = ever_few s whole roll in let drawn = whole.fewer.ids class in omega (arith, few, drawn)
+id_fits s class whole roll = let few = ever_few s whole roll in let drawn = whole.fewer.ids class in let big : 2 ^ 64 ≡ 18446744073709551616 = refl in omega (arith, few, drawn, big)
 
-pub spent_fits : {P : Type 0} (s : State P) (slot class need : ℕ) → IsWhole s → IsRoll s.transactions.registry → need ≤ max_plan → spent_by s.transactions.registry.spent slot class + need < 2 ^ 64
-spent_fits s slot class need whole roll small = let few = ever_few s whole roll in let spent = whole.fewer.spent slot class in omega (arith, few, spent, small)
+pub spent_fits : {P : Type 0} (s : State P) (slot class need : ℕ) → IsWhole s → IsRoll s.transactions.registry → need ≤ 1024 → spent_by s.transactions.registry.spent slot class + need < 2 ^ 64
+spent_fits s slot class need whole roll small = let few = ever_few s whole roll in let spent : spent_by s.transactions.registry.spent slot class ≤ 1024 * ever_planned s.transactions = whole.fewer.spent slot class in let big : 2 ^ 64 ≡ 18446744073709551616 = refl in omega (arith, few, spent, small, big)
 
 -- one operation more is planned
 pub one_planned : (seats : Seats) (slot : ℕ) (seat now : Seat) → seat_in seats slot ≡ Some seat → planned_by now ≡ planned_by seat + 1 → sum_by planned_in (set seats slot (Some now)) ≡ sum_by planned_in seats + 1

@@ -64,30 +64,34 @@ only_hand roll c h = record {
 pub writing_debt : (m : Manager) (s : Seat) (versions pages : ℕ) → s.condemned ≡ None → s.hand.phase ≡ phase.Writing → debt m s versions pages ≡ work_debt s.hand.work s.hand versions pages
 writing_debt m s versions pages live writing = λ i. cond (is_some (live i)) (repair_debt m s) (phase_debt m s (writing i) versions pages)
 
+-- a plan is small beside the steps that a version may take
+drop_less : (cells versions pages was : ℕ) → cells ≤ 1024 → cells + 1025 * (versions + 1) + pages < was + 1025 * (versions + 1 + 1) + pages
+drop_less cells versions pages was few = omega (arith, few)
+
 module _ {P : Type 0} (s : State P) (c : ConnId) (class : ℕ) (whole : IsWhole s) (seat : Seat) (held : seat_of s.transactions.registry.seats c ≡ Some seat) (due : IsDue class seat) (settled aimed : Versions) (kept : Keeps s settled aimed) where
-  at : seat_in s.transactions.registry.seats c.slot ≡ Some seat
-  at = in_its_slot s.transactions.registry.seats c seat held
+  pub due_at : seat_in s.transactions.registry.seats c.slot ≡ Some seat
+  due_at = in_its_slot s.transactions.registry.seats c seat held
 
   furnished : IsFurnished s.schema s.transactions.manager (cell_count s.schema s.memory) seat
-  furnished = whole.furnished c.slot seat at
+  furnished = whole.furnished c.slot seat due_at
 
-  writing : IsWriting s.transactions.manager (length s.schema.classes) seat
-  writing = subst (λ (p : Phase). RestsIn s.transactions.manager (length s.schema.classes) seat p) due.phase (kept.rests c.slot seat at)
+  pub due_writing : IsWriting s.transactions.manager (length s.schema.classes) seat
+  due_writing = subst (λ (p : Phase). RestsIn s.transactions.manager (length s.schema.classes) seat p) due.phase (kept.rests c.slot seat due_at)
 
-  in_work : (w : Work) × ((seat.hand.work ≡ Some w) × (class_named w.op ≡ class))
-  in_work = some_and_of (λ (w : Work). class_named w.op ≡ class) seat.hand.work due.work
+  pub due_work : (w : Work) × ((seat.hand.work ≡ Some w) × (class_named w.op ≡ class))
+  due_work = some_and_of (λ (w : Work). class_named w.op ≡ class) seat.hand.work due.work
 
-  unput : in_work.0.puts ≡ None
-  unput = writing.unplanned in_work.0 due.live in_work.1.0 due.plan
+  pub due_unput : due_work.0.puts ≡ None
+  due_unput = due_writing.unplanned due_work.0 due.live due_work.1.0 due.plan
 
-  opened : (t : Transaction) × ((seat.transaction ≡ Some t) × (t.kind ≡ kind.ReadWrite))
-  opened = some_and_of (λ (t : Transaction). t.kind ≡ kind.ReadWrite) seat.transaction writing.writer.0
+  pub due_opened : (t : Transaction) × ((seat.transaction ≡ Some t) × (t.kind ≡ kind.ReadWrite))
+  due_opened = some_and_of (λ (t : Transaction). t.kind ≡ kind.ReadWrite) seat.transaction due_writing.writer.0
 
   pub within : class < length s.schema.classes
-  within = subst (λ (k : ℕ). k < length s.schema.classes) in_work.1.1 (furnished.work in_work.0 in_work.1.0).class
+  within = subst (λ (k : ℕ). k < length s.schema.classes) due_work.1.1 (furnished.work due_work.0 due_work.1.0).class
 
-  latch : HoldsLatch seat class
-  latch = subst (λ (k : ℕ). HoldsLatch seat k) in_work.1.1 (writing.latch in_work.0 in_work.1.0)
+  pub due_latch : HoldsLatch seat class
+  due_latch = subst (λ (k : ℕ). HoldsLatch seat k) due_work.1.1 (due_writing.latch due_work.0 due_work.1.0)
 
   takes_none : takes_back s.transactions.manager seat ≡ false
   takes_none = λ i. is_some (due.live i) || (is_rolling_back (due.phase i) && not (spans_one_plan s.transactions.manager))
@@ -96,32 +100,14 @@ module _ {P : Type 0} (s : State P) (c : ConnId) (class : ℕ) (whole : IsWhole 
   speaks = or_right (is_dropping seat.hand) (not (takes_back s.transactions.manager seat)) (ap not takes_none)
 
   pub due_holds : HoldsSome (class_in s.store class) (image_of s.memory) (class_of s.memory)
-  due_holds = holds_some s.schema s.transactions.manager s.memory s.transactions.registry settled aimed c.slot seat whole.lawful kept.one_holder kept.agrees at due.plan (inl speaks) s.store whole.store class within latch
+  due_holds = holds_some s.schema s.transactions.manager s.memory s.transactions.registry settled aimed c.slot seat whole.lawful kept.one_holder kept.agrees due_at due.plan (inl speaks) s.store whole.store class within due_latch
 
   pub due_whatever : (Is : List Object → Type 0) → Is (objects_in aimed class) → Whatever (class_in s.store class) (image_of s.memory) (class_of s.memory) Is
-  due_whatever = whatever_held s.schema s.transactions.manager s.memory s.transactions.registry settled aimed c.slot seat whole.lawful kept.one_holder kept.agrees at due.plan (inl speaks) s.store whole.store class within latch
-
-  pub due_at : seat_in s.transactions.registry.seats c.slot ≡ Some seat
-  due_at = at
-
-  pub due_writing : IsWriting s.transactions.manager (length s.schema.classes) seat
-  due_writing = writing
-
-  pub due_work : (w : Work) × ((seat.hand.work ≡ Some w) × (class_named w.op ≡ class))
-  due_work = in_work
-
-  pub due_opened : (t : Transaction) × ((seat.transaction ≡ Some t) × (t.kind ≡ kind.ReadWrite))
-  due_opened = opened
-
-  pub due_unput : in_work.0.puts ≡ None
-  due_unput = unput
-
-  pub due_latch : HoldsLatch seat class
-  due_latch = latch
+  due_whatever = whatever_held s.schema s.transactions.manager s.memory s.transactions.registry settled aimed c.slot seat whole.lawful kept.one_holder kept.agrees due_at due.plan (inl speaks) s.store whole.store class within due_latch
 
   -- a plan that leads to another chain has a cell
   pub due_cell : (pairs : List Pair) (id : ℕ) (chain : List Version) → LeadsTo s.schema (ground_of s) pairs class id (chain_in aimed class id) chain → chain ≢ chain_in aimed class id → ¬ (pairs ≡ [])
-  due_cell = has_cell s.schema s.transactions.manager s.memory s.transactions.registry settled aimed c.slot seat whole.lawful kept.one_holder kept.agrees at due.plan (inl speaks) s.store whole.store class within latch
+  due_cell = has_cell s.schema s.transactions.manager s.memory s.transactions.registry settled aimed c.slot seat whole.lawful kept.one_holder kept.agrees due_at due.plan (inl speaks) s.store whole.store class within due_latch
 
   pub due_room : seat.hand.plan.room ≡ max_plan
   due_room = furnished.plan
@@ -136,13 +122,13 @@ module _ {P : Type 0} (s : State P) (c : ConnId) (class : ℕ) (whole : IsWhole 
     records = refl;
     only = on.only;
     places =
-        places_for_plan s.schema s.transactions.manager s.memory seat opened.0 class plan work whole.cells furnished opened.1.0 opened.1.1 once
-        (λ spans. writing.undo due.live spans due.plan)
-        (λ n named. let latched = (kept.agrees.works c.slot seat at).latched n (inl named) in subst (λ (o : Option ℕ). IsSome o) (sym latched.1) refl) on;
+        places_for_plan s.schema s.transactions.manager s.memory seat due_opened.0 class plan work whole.cells furnished due_opened.1.0 due_opened.1.1 once
+        (λ spans. due_writing.undo due.live spans due.plan)
+        (λ n named. let latched = (kept.agrees.works c.slot seat due_at).latched n (inl named) in subst (λ (o : Option ℕ). IsSome o) (sym latched.1) refl) on;
     leads = leads;
     one_holder =
         holders_turned s.transactions.registry.seats (with_hand s.transactions.registry.seats c.slot (with_plan plan work seat.hand)) c.slot seat (record seat { hand = with_plan plan work seat.hand })
-        (turned_by s.transactions.registry.seats (with_hand s.transactions.registry.seats c.slot (with_plan plan work seat.hand)) c seat (λ (x : Seat). record x { hand = with_plan plan work seat.hand }) at refl refl refl (λ k e. e))
+        (turned_by s.transactions.registry.seats (with_hand s.transactions.registry.seats c.slot (with_plan plan work seat.hand)) c seat (λ (x : Seat). record x { hand = with_plan plan work seat.hand }) due_at refl refl refl (λ k e. e))
         kept.one_holder;
   }
 
@@ -172,13 +158,13 @@ module _ {P : Type 0} (s : State P) (c : ConnId) (class : ℕ) (whole : IsWhole 
 
     leads_on : (pairs : List Pair) → LeadsWithout (class_in s.store class) (image_of s.memory) (class_of s.memory) pairs header → LeadsTo s.schema (ground_of s) pairs class id (chain_in aimed class id) (newer ++ older)
     leads_on pairs leads =
-        leads_rest s.schema s.transactions.manager s.memory s.transactions.registry settled aimed c.slot seat whole.lawful kept.one_holder kept.agrees at due.plan (inl speaks) s.store whole.store class within latch
+        leads_rest s.schema s.transactions.manager s.memory s.transactions.registry settled aimed c.slot seat whole.lawful kept.one_holder kept.agrees due_at due.plan (inl speaks) s.store whole.store class within due_latch
         pairs header id (newer ++ older) leads
         (record { version = g.version; there = g.there; without = record { newer = newer; older = older; before = g.split; after = refl } })
 
     pub garbage_some : (pairs : List Pair) → LeadsWithout (class_in s.store class) (image_of s.memory) (class_of s.memory) pairs header → ¬ (pairs ≡ [])
     garbage_some pairs leads =
-        has_cell s.schema s.transactions.manager s.memory s.transactions.registry settled aimed c.slot seat whole.lawful kept.one_holder kept.agrees at due.plan (inl speaks) s.store whole.store class within latch
+        has_cell s.schema s.transactions.manager s.memory s.transactions.registry settled aimed c.slot seat whole.lawful kept.one_holder kept.agrees due_at due.plan (inl speaks) s.store whole.store class within due_latch
         pairs id (newer ++ older) (leads_on pairs leads) (λ same. longer_with newer g.version older (same ∙ g.split))
 
     pub garbage_planned : (h : Hand) (plan : Record) → h ≡ record seat.hand { plan = plan } → IsRecord seat.hand.undo → IsPlanOn class (image_of s.memory) (class_of s.memory) plan →
@@ -187,11 +173,11 @@ module _ {P : Type 0} (s : State P) (c : ConnId) (class : ℕ) (whole : IsWhole 
         settled (with_chain_in aimed class id (newer ++ older))
     garbage_planned h plan is once on leads =
         subst (λ (x : Hand). IsKept s.schema s.transactions.manager s.counters.serials s.counters.ids.items (ground_in s.memory (record s.transactions.registry { seats = with_hand s.transactions.registry.seats c.slot x })) settled (with_chain_in aimed class id (newer ++ older)))
-        (sym (is ∙ (λ i. record seat.hand { plan = plan; work = in_work.1.0 i })))
+        (sym (is ∙ (λ i. record seat.hand { plan = plan; work = due_work.1.0 i })))
         (garbage_kept s.schema s.transactions.manager s.counters.serials s.counters.ids.items (ground_of s)
-        (ground_in s.memory (record s.transactions.registry { seats = with_hand s.transactions.registry.seats c.slot (with_plan plan (Some in_work.0) seat.hand) })) c seat settled aimed whole.lawful kept held due.phase due.live due.plan
-        in_work.0 in_work.1.0 opened.0 opened.1.0 class id plan newer older g.version g.commit within in_work.1.1 unput g.split g.done
-        (makes_laid plan (Some in_work.0) id (newer ++ older) once on (leads_on plan.pairs leads)))
+        (ground_in s.memory (record s.transactions.registry { seats = with_hand s.transactions.registry.seats c.slot (with_plan plan (Some due_work.0) seat.hand) })) c seat settled aimed whole.lawful kept held due.phase due.live due.plan
+        due_work.0 due_work.1.0 due_opened.0 due_opened.1.0 class id plan newer older g.version g.commit within due_work.1.1 due_unput g.split g.done
+        (makes_laid plan (Some due_work.0) id (newer ++ older) once on (leads_on plan.pairs leads)))
 
   -- the plan of a drop brings the end nearer, as the class has a version less
   pub drop_falls : (h : Hand) (plan : Record) → h ≡ record seat.hand { plan = plan } → IsRecord plan → plan.room ≡ max_plan → FallsWithVersion s.transactions.manager seat (record seat { hand = h })
@@ -199,13 +185,13 @@ module _ {P : Type 0} (s : State P) (c : ConnId) (class : ℕ) (whole : IsWhole 
       subst (λ (x : Hand). FallsWithVersion s.transactions.manager seat (record seat { hand = x })) (sym is) (λ versions pages.
       let was : debt s.transactions.manager seat (versions + 1) pages ≡ operation_debt None seat.hand (versions + 1) pages =
       writing_debt s.transactions.manager seat (versions + 1) pages due.live due.phase
-      ∙ ap (λ (o : Option Work). work_debt o seat.hand (versions + 1) pages) in_work.1.0 ∙ ap (λ (p : Option CellRef). operation_debt p seat.hand (versions + 1) pages) unput in
+      ∙ ap (λ (o : Option Work). work_debt o seat.hand (versions + 1) pages) due_work.1.0 ∙ ap (λ (p : Option CellRef). operation_debt p seat.hand (versions + 1) pages) due_unput in
       let now : debt s.transactions.manager (record seat { hand = record seat.hand { plan = plan } }) versions pages ≡ operation_debt None (record seat.hand { plan = plan }) versions pages =
       writing_debt s.transactions.manager (record seat { hand = record seat.hand { plan = plan } }) versions pages due.live due.phase
-      ∙ ap (λ (o : Option Work). work_debt o (record seat.hand { plan = plan }) versions pages) in_work.1.0 ∙ ap (λ (p : Option CellRef). operation_debt p (record seat.hand { plan = plan }) versions pages) unput in
-      let few = once.within in
+      ∙ ap (λ (o : Option Work). work_debt o (record seat.hand { plan = plan }) versions pages) due_work.1.0 ∙ ap (λ (p : Option CellRef). operation_debt p (record seat.hand { plan = plan }) versions pages) due_unput in
       subst (λ (n : ℕ). debt s.transactions.manager (record seat { hand = record seat.hand { plan = plan } }) versions pages < n) (sym was)
-      (subst (λ (n : ℕ). n < operation_debt None seat.hand (versions + 1) pages) (sym now) (omega (arith, few, room))))
+      (subst (λ (n : ℕ). n < operation_debt None seat.hand (versions + 1) pages) (sym now)
+      (drop_less (length plan.pairs) versions pages (length seat.hand.plan.pairs) (subst (λ (n : ℕ). length plan.pairs ≤ n) room once.within))))
 
   -- the record of the connection then
   pub falls_of : (h : Hand) (Falls : Seat → Seat → Type 0) → Falls seat (record seat { hand = h }) →

@@ -1,5 +1,5 @@
 -- A connection whose transaction goes back, and that has nothing in hand but own writes, takes a latch and gets the plan of a drop.
-use Rattle.std.proofs.Common.{◌≡◌, ◌≢◌, ◌⊎◌, ◌<◌, ◌≤◌, ◌+◌, ◌-◌, ◌*◌, ◌==◌, ◌++◌, ◌∷◌, ◌||◌, ◌&&◌, ℕ, List, [], length, Bool, true, false, not, cond, find, slice_get, Option, Some, None, IsSome, IsSomeAnd, IfNone, Contains, is_some, is_none, option_and_then, option_map, refl, sym, ap, subst, ◌∙◌, arith, inl, inr}
+use Rattle.std.proofs.Common.{◌≡◌, ◌≢◌, ◌⊎◌, ◌<◌, ◌≤◌, ◌+◌, ◌-◌, ◌*◌, ◌==◌, ◌++◌, ◌∷◌, ◌||◌, ◌&&◌, ℕ, List, [], length, Bool, true, false, not, cond, count_by, find, slice_get, Option, Some, None, IsSome, IsSomeAnd, IfNone, Contains, is_some, is_none, option_and_then, option_map, refl, sym, ap, subst, ◌∙◌, arith, inl, inr}
 use Rattle.std.proofs.lemmas.Bool.{cases_lt, false≢true}
 use Rattle.std.proofs.lemmas.List.{get_or_past}
 use Rattle.std.proofs.lemmas.List.Sums.{count_by-le-length}
@@ -59,7 +59,7 @@ use Rattle.rdb_steps.proofs.KeptLemmas.{holders_turned}
 use Rattle.rdb_steps.proofs.LatchLemmas.{latches_taken}
 use Rattle.rdb_steps.proofs.LeadingLemmas.{is_of_it}
 use Rattle.rdb_steps.proofs.OwnChains.{left_without, longer_with}
-use Rattle.rdb_steps.proofs.PlacesLemmas.{quiet_if}
+use Rattle.rdb_steps.proofs.PlacesLemmas.{places_few, quiet_if}
 use Rattle.rdb_steps.proofs.PlanningLemmas.{unwritten_if}
 use Rattle.rdb_steps.proofs.RestingLemmas.{same_at_rest}
 
@@ -73,6 +73,10 @@ map_some (Some v) r e = (v, refl, (let both : Some r ≡ Some (ref_of v) = e in 
 
 no_version : (settled : Versions) (class id : ℕ) → length settled ≤ class → chain_in settled class id ≡ []
 no_version settled class id past = ap (λ (os : List Object). chain_of os id) (get_or_past settled class [] past)
+
+-- the plan of a drop is small beside the steps that its version may take
+repair_less : (cells own : ℕ) → cells ≤ 1024 → 0 < own → cells + (1027 * own - 1027) + 2 < 1027 * own + 1
+repair_less cells own few some = omega (arith, few, some)
 
 -- what is left of a repair, by its parts
 abbrev repair_by : Bool → Bool → ℕ → Bool → ℕ → ℕ → ℕ → ℕ
@@ -208,12 +212,8 @@ module _ {P : Type 0} (s : State P) (c : ConnId) (whole : IsWhole s) (seat : Sea
       records = refl;
       only = on.only;
       places =
-          let none : length seat.hand.undo.pairs ≡ 0 = ap length due.undo in
-          let few = count_by-le-length (λ (p : Pair). not (names seat.hand.undo.pairs p.at.number)) plan.pairs in
-          let within = on.once.within in
-          let room = on.room in
-          let enough = furnished.undo (quiet_if s.transactions.manager seat spans) in
-          omega (arith, none, few, within, room, enough);
+          places_few (length seat.hand.undo.pairs) (count_by (λ (p : Pair). not (names seat.hand.undo.pairs p.at.number)) plan.pairs) (length plan.pairs) plan.room seat.hand.undo.room
+          (ap length due.undo) (count_by-le-length (λ (p : Pair). not (names seat.hand.undo.pairs p.at.number)) plan.pairs) on.once.within on.room (furnished.undo (quiet_if s.transactions.manager seat spans));
       leads = leads_on plan.pairs leads;
       one_holder =
           holders_turned (changed s.transactions.registry.seats c.slot (add_latch own.class)) (with_hand (changed s.transactions.registry.seats c.slot (add_latch own.class)) c.slot (with_plan plan None seat.hand)) c.slot
@@ -285,10 +285,8 @@ module _ {P : Type 0} (s : State P) (c : ConnId) (whole : IsWhole s) (seat : Sea
       subst (λ (x : Hand). FallsDebt s.transactions.manager seat (record (add_latch own.class seat) { hand = x })) (sym is) (λ versions pages.
       let was = in_repair seat seat.condemned refl (λ live. due.rolls live) versions pages in
       let now = in_repair (record (add_latch own.class seat) { hand = record seat.hand { plan = plan } }) seat.condemned refl (λ live. due.rolls live) versions pages in
-      let few = once.within in
-      let many = due.own in
       subst (λ (n : ℕ). debt s.transactions.manager (record (add_latch own.class seat) { hand = record seat.hand { plan = plan } }) versions pages < n) (sym (was ∙ repair_was))
-      (subst (λ (n : ℕ). n < version_steps * length seat.hand.own.items + 1) (sym (now ∙ repair_now)) (omega (arith, few, room, many))))
+      (subst (λ (n : ℕ). n < version_steps * length seat.hand.own.items + 1) (sym (now ∙ repair_now)) (repair_less (length plan.pairs) (length seat.hand.own.items) (subst (λ (n : ℕ). length plan.pairs ≤ n) room once.within) due.own)))
     where
       settled_is : (x : Seat) → settled_own s.transactions.manager x ≡ length x.hand.own.items
       settled_is x = λ i. cond (spans i || is_marked x) (length x.hand.own.items) 0

@@ -181,7 +181,7 @@ claimed schema (op.Prefix class index text how) bytes most write is = absurd (fa
 claimed schema (op.Count class) bytes most write is = absurd (false≢true write)
 
 -- the version that an operation of an open transaction is to put
-pub new_version : {P : Type 0} → State P → Seat → Transaction → ℕ → Op → NewVersion
+abbrev pub new_version : {P : Type 0} → State P → Seat → Transaction → ℕ → Op → NewVersion
 new_version s seat t class o = record {
   class = class;
   id = id_to_write s.counters.ids.items o;
@@ -226,14 +226,14 @@ module _ {P : Type 0} (s : State P) (c : ConnId) (class : ℕ) (whole : IsWhole 
   -- the operation can put its version
   pub ready : (need count : ℕ) → need ≡ claim_of s.schema w.op (length w.bytes) → HasFree (image_of s.memory) (class_of s.memory) class count → need ≤ count →
       IsReadyToPut s.store (image_of s.memory) (class_of s.memory) (new_version s seat t class w.op) w
-  ready need count is free enough = record {
+  ready need count is frees enough = record {
     write = fits.write;
     row =
         spells s.schema (class_in s.store class).types w.op w.bytes
         (ap (λ (k : ClassShape). k.types) shape_same ∙ ap (λ (k : ℕ). types_of s.schema k) (sym of_class)) fits.bytes;
     short = fits.short;
     free =
-        untaken_free (image_of s.memory) (class_of s.memory) class count (taken_by w.op (claim_in (shape_in s.store class) (length w.bytes))) free
+        untaken_free (image_of s.memory) (class_of s.memory) class count (taken_by w.op (claim_in (shape_in s.store class) (length w.bytes))) frees
         (subst (λ (n : ℕ). n ≤ count)
         (is ∙ claimed s.schema w.op (length w.bytes) (claim_in (shape_in s.store class) (length w.bytes)) fits.write
         (ap (λ (k : ClassShape). claim_in k (length w.bytes)) (shape_same ∙ ap (λ (k : ℕ). class_shape s.schema k) (sym of_class)))) enough);
@@ -264,9 +264,9 @@ module _ {P : Type 0} (s : State P) (c : ConnId) (class : ℕ) (whole : IsWhole 
   fresh : (header : ℕ) → version_put header (s.counters.serials + 1) (tx_of seat t) (with_id w.op (id_to_write s.counters.ids.items w.op)) ∷ all_but (tx_of seat t) (chain_in aimed class (id_to_write s.counters.ids.items w.op)) ≢
       chain_in aimed class (id_to_write s.counters.ids.items w.op)
   fresh header same =
-      let old = kept.drawn_aimed.each_serial class (version_put header (s.counters.serials + 1) (tx_of seat t) (with_id w.op (id_to_write s.counters.ids.items w.op)))
+      let old : s.counters.serials + 1 ≤ s.counters.serials = kept.drawn_aimed.each_serial class (version_put header (s.counters.serials + 1) (tx_of seat t) (with_id w.op (id_to_write s.counters.ids.items w.op)))
       (record { id = id_to_write s.counters.ids.items w.op; within = subst (λ (vs : List Version). Contains vs (version_put header (s.counters.serials + 1) (tx_of seat t) (with_id w.op (id_to_write s.counters.ids.items w.op)))) same (zero, omega arith, refl) }) in
-      omega (arith, old)
+      absurd (omega (arith, old))
 
   pub put_some : (pairs : List Pair) (header : ℕ) → LeadsToPut (class_in s.store class) (image_of s.memory) (class_of s.memory) pairs (new_version s seat t class w.op) header (row_written w.op) → ¬ (pairs ≡ [])
   put_some pairs header leads =
@@ -288,7 +288,7 @@ module _ {P : Type 0} (s : State P) (c : ConnId) (class : ℕ) (whole : IsWhole 
       (version_put header.number (s.counters.serials + 1) (tx_of seat t) (with_id w.op (id_to_write s.counters.ids.items w.op))) here (same_class w.op (id_to_write s.counters.ids.items w.op)) of_class (named_id s.counters.ids.items w.op)
       (makes_laid s c class whole seat held due settled aimed kept plan (Some (put_by (id_to_write s.counters.ids.items w.op) header w)) (id_to_write s.counters.ids.items w.op)
       (version_put header.number (s.counters.serials + 1) (tx_of seat t) (with_id w.op (id_to_write s.counters.ids.items w.op)) ∷ all_but (tx_of seat t) (chain_in aimed class (id_to_write s.counters.ids.items w.op))) once on (leads_on plan.pairs header.number leads))
-      refl refl (omega arith) (omega arith) (more_ids s.counters.ids.items w.op)
+      refl refl (let less : s.counters.serials < s.counters.serials + 1 = omega arith in less) (let most : s.counters.serials + 1 ≤ s.counters.serials + 1 = omega arith in most) (more_ids s.counters.ids.items w.op)
       (subst (λ (k : ℕ). id_to_write s.counters.ids.items w.op ≤ slice_index (ids_after s.counters.ids.items w.op) k) of_class
       (id_drawn s.counters.ids.items aimed w.op fits.write
       (let many = whole.ids in subst (λ (k : ℕ). k < length s.counters.ids.items) (sym of_class) (omega (arith, many, here)))

@@ -6,7 +6,7 @@ use Rattle.rdb_base.specs.declared.operation.Op.{Op}
 use Rattle.rdb_base.specs.Operations.{class_of as class_named}
 use Rattle.rdb_pages.specs.declared.cell.CellRef.{CellRef}
 use Rattle.rdb_cells.specs.declared.pairs.Pair.{Pair}
-use Rattle.rdb_cells.specs.Records.{IsRecord, max_plan}
+use Rattle.rdb_cells.specs.Records.{IsRecord}
 use Rattle.rdb_registry.specs.declared.hand.Hand.{Hand}
 use Rattle.rdb_registry.specs.declared.hand.Work.{Work}
 use Rattle.rdb_registry.specs.declared.seat.Seat.{Seat}
@@ -112,7 +112,7 @@ module _ {P : Type 0} (s : State P) (c : ConnId) (class need : ℕ) (whole : IsW
       store = refl;
     }
 
-    pub made_whole : (settled aimed : Versions) → Keeps s settled aimed → need ≤ max_plan → w.puts ≡ None →
+    pub made_whole : (settled aimed : Versions) → Keeps s settled aimed → need ≤ 1024 → w.puts ≡ None →
         IsWhole (record s { transactions = record s.transactions { registry = record spent { seats = with_hand spent.seats c.slot h } }; counters = second })
     made_whole settled aimed kept small unput =
         subst (λ (r : Roll). IsWhole (record s { transactions = record s.transactions { registry = record r { seats = with_hand r.seats c.slot h } }; counters = second })) (sym spends)

@@ -6,6 +6,7 @@ use Rattle.rdb_base.specs.declared.identity.ConnId.{ConnId}
 use Rattle.rdb_base.specs.declared.identity.Kind.TheVariants as kind
 use Rattle.rdb_base.specs.declared.identity.Phase.{Phase}
 use Rattle.rdb_base.specs.declared.identity.Phase.TheVariants as phase
+use Rattle.rdb_base.specs.declared.limits.TheConstants.{MAX_OPERATIONS}
 use Rattle.rdb_base.specs.declared.operation.Op.{Op}
 use Rattle.rdb_base.specs.declared.operation.Op.TheVariants as op
 use Rattle.rdb_base.specs.Operations.{class_of as class_named, is_write}
@@ -81,6 +82,15 @@ put_fits schema w id header f = record {
   short = f.short;
 }
 
+one_out : (a b : ℕ) → a + (b + 1) ≡ a + b + 1
+one_out a b = omega arith
+
+spent_room : (spent ever need : ℕ) → spent ≤ 1024 * ever + need → need ≤ 1024 → spent ≤ 1024 * (ever + 1)
+spent_room spent ever need few small = omega (arith, few, small)
+
+put_less : (cells versions pages was : ℕ) → cells ≤ 1024 → cells < was + 1025 * (versions + 1) + pages
+put_less cells versions pages was few = omega (arith, few)
+
 unmarked_if : (t : Transaction) → is_some t.mark ≡ false → is_none t.mark ≡ true
 unmarked_if t e = go t.mark e
   where
@@ -135,7 +145,7 @@ module _ {P : Type 0} (s : State P) (c : ConnId) (class : ℕ) (whole : IsWhole 
       work = λ x is. (let both : Some (put_by id header w) ≡ Some x = is in let one : put_by id header w ≡ x = cc in subst (λ (y : Work). WorkFits s.schema y) one (put_fits s.schema w id header (furnished.work w had)));
       done = λ some. furnished.done (subst (λ (o : Option Work). IsSome o) (sym had) refl);
       own = λ some. furnished.own (subst (λ (o : Option Work). IsSome o) (sym had) refl);
-      few = let few = furnished.few in let count = ap (λ (o : Option Work). length seat.hand.done.items + cond {A = ℕ} (is_some o) 1 0) had in omega (arith, few, count);
+      few = subst (λ (n : ℕ). n ≤ MAX_OPERATIONS) (ap (λ (o : Option Work). length seat.hand.done.items + cond {A = ℕ} (is_some o) 1 0) had) furnished.few;
     };
   }
     where
@@ -159,7 +169,7 @@ module _ {P : Type 0} (s : State P) (c : ConnId) (class : ℕ) (whole : IsWhole 
       (subst (λ (x : Hand). Follows s.schema s.transactions.manager (cell_count s.schema s.memory) (length s.transactions.journal.entries) seat (record seat { hand = x })) (sym (hand_is h plan id header is)) (follows plan id header room))
 
   -- numbers are drawn, and a claim is spent
-  pub whole_put : (h : Hand) (plan : Record) (id : ℕ) (header : CellRef) (need : ℕ) (counters : Counters) → h ≡ putting plan id header seat.hand → plan.room ≡ max_plan → need ≤ max_plan →
+  pub whole_put : (h : Hand) (plan : Record) (id : ℕ) (header : CellRef) (need : ℕ) (counters : Counters) → h ≡ putting plan id header seat.hand → plan.room ≡ max_plan → need ≤ 1024 →
       counters.serials ≡ s.counters.serials + 1 → counters.ids.items ≡ ids_after s.counters.ids.items w.op →
       IsWhole (record s { counters = counters; transactions = record s.transactions { registry = record s.transactions.registry {
         seats = with_hand s.transactions.registry.seats c.slot h;
@@ -173,14 +183,18 @@ module _ {P : Type 0} (s : State P) (c : ConnId) (class : ℕ) (whole : IsWhole 
     cells = whole.cells;
     classes = whole.classes;
     ids = ap length ids ∙ many_ids s.counters.ids.items w.op ∙ whole.ids;
-    sound = record { records = thereafter.sound.records; claims = record { entries = thereafter.sound.claims.entries; writes = thereafter.sound.claims.writes; room = thereafter.sound.claims.room }; spare = thereafter.sound.spare };
+    sound = record { records = thereafter.sound.records; claims = thereafter.sound.claims; spare = thereafter.sound.spare };
     furnished = thereafter.furnished;
     spare = record { spare = thereafter.spare.spare; own = thereafter.spare.own };
     fewer = record {
-      serials = (let drawn = whole.fewer.serials in omega (arith, drawn, sums, serials));
-      ids = λ k. (let drawn = whole.fewer.ids k in let one = one_id s.counters.ids.items w.op k in let same = ap (λ (xs : List ℕ). slice_index xs k) ids in omega (arith, drawn, one, same, sums));
+      serials = subst (λ (n : ℕ). counters.serials ≤ n) (sym grown) (let drawn = whole.fewer.serials in omega (arith, drawn, serials));
+      ids = λ k.
+          subst (λ (n : ℕ). slice_index counters.ids.items k ≤ n) (sym grown)
+          (let drawn = whole.fewer.ids k in let one = one_id s.counters.ids.items w.op k in let same = ap (λ (xs : List ℕ). slice_index xs k) ids in omega (arith, drawn, one, same));
       spent = λ place k.
-          (let few = spent_more s.transactions.registry.spent c.slot class need place k (max_plan * ever_planned s.transactions) (λ i j. whole.fewer.spent i j) in omega (arith, few, small, sums));
+          subst (λ (n : ℕ). spent_by (with_spent s.transactions.registry.spent c.slot class (spent_by s.transactions.registry.spent c.slot class + need)) place k ≤ max_plan * n) (sym grown)
+          (spent_room (spent_by (with_spent s.transactions.registry.spent c.slot class (spent_by s.transactions.registry.spent c.slot class + need)) place k) (ever_planned s.transactions) need
+          (spent_more s.transactions.registry.spent c.slot class need place k (max_plan * ever_planned s.transactions) (λ i j. whole.fewer.spent i j)) small);
     };
   }
     where
@@ -193,6 +207,14 @@ module _ {P : Type 0} (s : State P) (c : ConnId) (class : ℕ) (whole : IsWhole 
           ∙ one_planned s.transactions.registry.seats c.slot seat (record seat { hand = h }) at
           (ap (λ (x : Hand). planned_by (record seat { hand = x })) (hand_is h plan id header is) ∙ more plan id header)
 
+      grown : ever_planned (record s.transactions { registry = record s.transactions.registry {
+        seats = with_hand s.transactions.registry.seats c.slot h;
+        spent = with_spent s.transactions.registry.spent c.slot class (spent_by s.transactions.registry.spent c.slot class + need);
+      } }) ≡ ever_planned s.transactions + 1
+      grown =
+          ap (λ (n : ℕ). MAX_OPERATIONS * length s.transactions.journal.entries + n) sums
+          ∙ one_out (MAX_OPERATIONS * length s.transactions.journal.entries) (sum_by planned_in s.transactions.registry.seats)
+
   -- the operation's own plan brings its end nearer
   pub put_falls : (h : Hand) (plan : Record) (id : ℕ) (header : CellRef) → h ≡ putting plan id header seat.hand → IsRecord plan → plan.room ≡ max_plan → FallsDebt s.transactions.manager seat (record seat { hand = h })
   put_falls h plan id header is once room =
@@ -202,6 +224,6 @@ module _ {P : Type 0} (s : State P) (c : ConnId) (class : ℕ) (whole : IsWhole 
       ∙ ap (λ (o : Option Work). work_debt o seat.hand versions pages) had ∙ ap (λ (p : Option CellRef). operation_debt p seat.hand versions pages) unput in
       let now : debt s.transactions.manager (record seat { hand = with_plan plan (Some (put_by id header w)) seat.hand }) versions pages ≡ length plan.pairs =
       writing_debt s.transactions.manager (record seat { hand = with_plan plan (Some (put_by id header w)) seat.hand }) versions pages due.live due.phase in
-      let few = once.within in
       subst (λ (n : ℕ). debt s.transactions.manager (record seat { hand = with_plan plan (Some (put_by id header w)) seat.hand }) versions pages < n) (sym was)
-      (subst (λ (n : ℕ). n < operation_debt None seat.hand versions pages) (sym now) (omega (arith, few, room))))
+      (subst (λ (n : ℕ). n < operation_debt None seat.hand versions pages) (sym now)
+      (put_less (length plan.pairs) versions pages (length seat.hand.plan.pairs) (subst (λ (n : ℕ). length plan.pairs ≤ n) room once.within))))

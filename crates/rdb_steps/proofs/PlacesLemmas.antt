@@ -1,5 +1,5 @@
 -- A connection's undo record has a place for each cell of a plan that is laid in its hand.
-use Rattle.std.proofs.Common.{◌≡◌, ◌<◌, ◌≤◌, ◌+◌, ℕ, [], length, not, true, false, Option, Some, IsSome, refl, sym, ap, subst, ◌∙◌, arith, inl, inr}
+use Rattle.std.proofs.Common.{◌≡◌, ◌<◌, ◌≤◌, ◌+◌, ℕ, [], length, count_by, not, true, false, Option, Some, IsSome, refl, sym, ap, subst, ◌∙◌, arith, inl, inr}
 use Rattle.std.specs.Option.{option_map_or}
 use Rattle.std.proofs.lemmas.Bool.{false≢true}
 use Rattle.std.proofs.lemmas.List.Sums.{count_by-le-length}
@@ -32,18 +32,18 @@ pub quiet_if : (m : Manager) (seat : Seat) → spans_one_plan m ≡ true → is_
 quiet_if manager.Mvcc seat spans = refl
 quiet_if manager.Mursiw seat spans = absurd (false≢true spans)
 
+-- so many cells of a plan, none of which is logged, have places
+pub places_few : (logged unlogged pairs room places : ℕ) → logged ≡ 0 → unlogged ≤ pairs → pairs ≤ room → room ≡ 1024 → 1024 ≤ places → logged + unlogged ≤ places
+places_few logged unlogged pairs room places none few within full enough = omega (arith, none, few, within, full, enough)
+
 pub places_for_plan : (schema : Schema) (manager : Manager) (memory : RegionCells) (seat : Seat) (t : Transaction) (class : ℕ) (plan : Record) (work : Option Work) → HasClasses schema memory →
     IsFurnished schema manager (cell_count schema memory) seat → seat.transaction ≡ Some t → t.kind ≡ kind.ReadWrite → IsRecord seat.hand.undo →
     (spans_one_plan manager ≡ true → seat.hand.undo.pairs ≡ []) → ((n : ℕ) → names seat.hand.undo.pairs n ≡ true → IsSome (class_of memory n)) →
     IsPlanOn class (image_of memory) (class_of memory) plan → HasPlaces (with_plan plan work seat.hand)
 places_for_plan schema manager memory seat t class plan work classes f opened writes once empty logged on = elim (true_or_false (spans_one_plan manager)) [
   | inl spans ↦
-      let none : length seat.hand.undo.pairs ≡ 0 = ap length (empty spans) in
-      let few = count_by-le-length (λ (p : Pair). not (names seat.hand.undo.pairs p.at.number)) plan.pairs in
-      let within = on.once.within in
-      let room = on.room in
-      let enough = f.undo (quiet_if manager seat spans) in
-      omega (arith, none, few, within, room, enough)
+      places_few (length seat.hand.undo.pairs) (count_by (λ (p : Pair). not (names seat.hand.undo.pairs p.at.number)) plan.pairs) (length plan.pairs) plan.room seat.hand.undo.room
+      (ap length (empty spans)) (count_by-le-length (λ (p : Pair). not (names seat.hand.undo.pairs p.at.number)) plan.pairs) on.once.within on.room (f.undo (quiet_if manager seat spans))
   | inr alone ↦
       has_places schema memory classes (with_plan plan work seat.hand) once.once on.once.once
       (λ n works. elim works [

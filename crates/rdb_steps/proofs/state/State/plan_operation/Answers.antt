@@ -2,7 +2,6 @@ use Rattle.std.proofs.Common.{◌<◌, ◌≤◌, ◌≡◌, ◌+◌, ◌^◌, �
 use Rattle.std.proofs.lemmas.Option.{slice_get_within}
 use Rattle.rdb_base.specs.declared.identity.Stamp.TheVariants as stamp
 use Rattle.rdb_base.specs.Operations.{class_of as class_named}
-use Rattle.rdb_cells.specs.Records.{max_plan}
 use Rattle.rdb_registry.specs.declared.hand.Hand.{Hand}
 use Rattle.rdb_registry.specs.declared.hand.Work.{Work}
 use Rattle.rdb_registry.specs.declared.seat.Seat.{Seat}
@@ -51,14 +50,14 @@ id_of-id-requires-clause-class g c =
     let seat = c.seat.result.now in
     let due = has_seat s.transactions.registry.seats c.args.c (IsDue c.args.class) seat c.requires.due c.seat.ensures in
     subst (λ (k : ℕ). k < length c.draw_serial-serial.new.self.ids.items) (sym (ap class_named (sym (subst (λ (o : Option Work). IsSomeAnd o (λ work. work.op ≡ c.operation_of.result.now)) (due_work s c.args.c c.args.class c.requires.whole seat c.seat.ensures due c.requires.kept.0 c.requires.kept.1 c.requires.kept.2).1.0 c.operation_of.ensures)) ∙ (due_work s c.args.c c.args.class c.requires.whole seat c.seat.ensures due c.requires.kept.0 c.requires.kept.1 c.requires.kept.2).1.1))
-    (subst (λ (n : ℕ). c.args.class < n) (sym (ap (λ x. length x.items) c.draw_serial-serial.ensures.ids ∙ c.requires.whole.ids)) (within s c.args.c c.args.class c.requires.whole seat c.seat.ensures due c.requires.kept.0 c.requires.kept.1 c.requires.kept.2))
+    (subst (λ (n : ℕ). c.args.class < n) (sym ((λ i. length (c.draw_serial-serial.ensures.ids i).items) ∙ c.requires.whole.ids)) (within s c.args.c c.args.class c.requires.whole seat c.seat.ensures due c.requires.kept.0 c.requires.kept.1 c.requires.kept.2))
 
 pub id_of-id-requires-clause-fits : goal.id_of-id-requires-clause-fits
 id_of-id-requires-clause-fits g c =
     let s = c.args.self.now in
     let seat = c.seat.result.now in
     let due = has_seat s.transactions.registry.seats c.args.c (IsDue c.args.class) seat c.requires.due c.seat.ensures in
-    subst (λ (ns : List ℕ). slice_index ns (class_named c.operation_of.result.now) + 1 < 2 ^ 64) (sym (ap (λ x. x.items) c.draw_serial-serial.ensures.ids))
+    subst (λ (ns : List ℕ). slice_index ns (class_named c.operation_of.result.now) + 1 < 2 ^ 64) (sym (λ i. (c.draw_serial-serial.ensures.ids i).items))
     (id_fits s (class_named c.operation_of.result.now) c.requires.whole c.sound.ensures)
 
 pub spend-requires-clause-class : goal.spend-requires-clause-class
@@ -73,7 +72,7 @@ spend-requires-clause-fits g c =
     let s = c.args.self.now in
     let seat = c.seat.result.now in
     let due = has_seat s.transactions.registry.seats c.args.c (IsDue c.args.class) seat c.requires.due c.seat.ensures in
-    spent_fits s c.args.c.slot c.args.class c.args.need c.requires.whole c.sound.ensures (subst (λ (n : ℕ). n ≤ max_plan) (sym (of_work s c.args.c seat c.seat.ensures (due_work s c.args.c c.args.class c.requires.whole seat c.seat.ensures due c.requires.kept.0 c.requires.kept.1 c.requires.kept.2).0 (due_work s c.args.c c.args.class c.requires.whole seat c.seat.ensures due c.requires.kept.0 c.requires.kept.1 c.requires.kept.2).1.0 (λ x work. c.args.need ≡ claim_of s.schema work.op (length work.bytes)) c.requires.need)) (claim_small s.schema (due_work s c.args.c c.args.class c.requires.whole seat c.seat.ensures due c.requires.kept.0 c.requires.kept.1 c.requires.kept.2).0.op (length (due_work s c.args.c c.args.class c.requires.whole seat c.seat.ensures due c.requires.kept.0 c.requires.kept.1 c.requires.kept.2).0.bytes) c.requires.whole.schema ((c.requires.whole.furnished c.args.c.slot seat (in_its_slot s.transactions.registry.seats c.args.c seat c.seat.ensures)).work (due_work s c.args.c c.args.class c.requires.whole seat c.seat.ensures due c.requires.kept.0 c.requires.kept.1 c.requires.kept.2).0 (due_work s c.args.c c.args.class c.requires.whole seat c.seat.ensures due c.requires.kept.0 c.requires.kept.1 c.requires.kept.2).1.0).short))
+    spent_fits s c.args.c.slot c.args.class c.args.need c.requires.whole c.sound.ensures (subst (λ (n : ℕ). n ≤ 1024) (sym (of_work s c.args.c seat c.seat.ensures (due_work s c.args.c c.args.class c.requires.whole seat c.seat.ensures due c.requires.kept.0 c.requires.kept.1 c.requires.kept.2).0 (due_work s c.args.c c.args.class c.requires.whole seat c.seat.ensures due c.requires.kept.0 c.requires.kept.1 c.requires.kept.2).1.0 (λ x work. c.args.need ≡ claim_of s.schema work.op (length work.bytes)) c.requires.need)) (claim_small s.schema (due_work s c.args.c c.args.class c.requires.whole seat c.seat.ensures due c.requires.kept.0 c.requires.kept.1 c.requires.kept.2).0.op (length (due_work s c.args.c c.args.class c.requires.whole seat c.seat.ensures due c.requires.kept.0 c.requires.kept.1 c.requires.kept.2).0.bytes) c.requires.whole.schema ((c.requires.whole.furnished c.args.c.slot seat (in_its_slot s.transactions.registry.seats c.args.c seat c.seat.ensures)).work (due_work s c.args.c c.args.class c.requires.whole seat c.seat.ensures due c.requires.kept.0 c.requires.kept.1 c.requires.kept.2).0 (due_work s c.args.c c.args.class c.requires.whole seat c.seat.ensures due c.requires.kept.0 c.requires.kept.1 c.requires.kept.2).1.0).short))
 
 pub spend-requires-clause-slot : goal.spend-requires-clause-slot
 spend-requires-clause-slot g c =
@@ -160,4 +159,4 @@ returns-clause-whole g c =
     let s = c.args.self.now in
     let seat = c.seat.result.now in
     let due = has_seat s.transactions.registry.seats c.args.c (IsDue c.args.class) seat c.requires.due c.seat.ensures in
-    made_whole s c.args.c c.args.class c.args.need c.requires.whole seat c.seat.ensures due (due_work s c.args.c c.args.class c.requires.whole seat c.seat.ensures due c.requires.kept.0 c.requires.kept.1 c.requires.kept.2).0 (due_work s c.args.c c.args.class c.requires.whole seat c.seat.ensures due c.requires.kept.0 c.requires.kept.1 c.requires.kept.2).1.0 (due_work s c.args.c c.args.class c.requires.whole seat c.seat.ensures due c.requires.kept.0 c.requires.kept.1 c.requires.kept.2).1.1 (due_opened s c.args.c c.args.class c.requires.whole seat c.seat.ensures due c.requires.kept.0 c.requires.kept.1 c.requires.kept.2).0 (due_opened s c.args.c c.args.class c.requires.whole seat c.seat.ensures due c.requires.kept.0 c.requires.kept.1 c.requires.kept.2).1.0 c.draw_serial-serial.new.self c.id_of-id.new.self c.draw_serial-serial.ensures.serials c.draw_serial-serial.ensures.ids c.operation_of.result.now (subst (λ (o : Option Work). IsSomeAnd o (λ work. work.op ≡ c.operation_of.result.now)) (due_work s c.args.c c.args.class c.requires.whole seat c.seat.ensures due c.requires.kept.0 c.requires.kept.1 c.requires.kept.2).1.0 c.operation_of.ensures) c.id_of-id.ensures.serials c.id_of-id.ensures.ids c.id_of-id.result c.draw_serial-serial.result c.id_of-id.ensures.id c.draw_serial-serial.ensures.serial c.version_to_put-new.result (subst (λ (x : Seat). c.version_to_put-new.result ≡ record { class = c.args.class; id = c.id_of-id.result; serial = c.draw_serial-serial.result; stamp = stamp.By (tx_of x (due_opened s c.args.c c.args.class c.requires.whole seat c.seat.ensures due c.requires.kept.0 c.requires.kept.1 c.requires.kept.2).0); replaces = header_of x.hand.own.items (c.args.class, c.id_of-id.result) }) (same_seat s.transactions.registry.seats c.args.c c.seat-2.result.now seat (subst (λ (r : Roll). seat_of r.seats c.args.c ≡ Some c.seat-2.result.now) c.spend.ensures c.seat-2.ensures) c.seat.ensures) (c.version_to_put-new.ensures (due_opened s c.args.c c.args.class c.requires.whole seat c.seat.ensures due c.requires.kept.0 c.requires.kept.1 c.requires.kept.2).0 (ap (λ (x : Seat). x.transaction) (same_seat s.transactions.registry.seats c.args.c c.seat-2.result.now seat (subst (λ (r : Roll). seat_of r.seats c.args.c ≡ Some c.seat-2.result.now) c.spend.ensures c.seat-2.ensures) c.seat.ensures) ∙ (due_opened s c.args.c c.args.class c.requires.whole seat c.seat.ensures due c.requires.kept.0 c.requires.kept.1 c.requires.kept.2).1.0))) c.spend.new.self c.spend.ensures c.seat_mut-hand.result.now c.lay_put.new.hand c.seat_mut-hand.ensures.value c.lay_put.result c.lay_put.ensures.hand c.lay_put.ensures.leads c.lay_put.ensures.plan c.logged_once.ensures c.requires.kept.0 c.requires.kept.1 c.requires.kept.2 (subst (λ (n : ℕ). n ≤ max_plan) (sym (of_work s c.args.c seat c.seat.ensures (due_work s c.args.c c.args.class c.requires.whole seat c.seat.ensures due c.requires.kept.0 c.requires.kept.1 c.requires.kept.2).0 (due_work s c.args.c c.args.class c.requires.whole seat c.seat.ensures due c.requires.kept.0 c.requires.kept.1 c.requires.kept.2).1.0 (λ x work. c.args.need ≡ claim_of s.schema work.op (length work.bytes)) c.requires.need)) (claim_small s.schema (due_work s c.args.c c.args.class c.requires.whole seat c.seat.ensures due c.requires.kept.0 c.requires.kept.1 c.requires.kept.2).0.op (length (due_work s c.args.c c.args.class c.requires.whole seat c.seat.ensures due c.requires.kept.0 c.requires.kept.1 c.requires.kept.2).0.bytes) c.requires.whole.schema ((c.requires.whole.furnished c.args.c.slot seat (in_its_slot s.transactions.registry.seats c.args.c seat c.seat.ensures)).work (due_work s c.args.c c.args.class c.requires.whole seat c.seat.ensures due c.requires.kept.0 c.requires.kept.1 c.requires.kept.2).0 (due_work s c.args.c c.args.class c.requires.whole seat c.seat.ensures due c.requires.kept.0 c.requires.kept.1 c.requires.kept.2).1.0).short)) (due_unput s c.args.c c.args.class c.requires.whole seat c.seat.ensures due c.requires.kept.0 c.requires.kept.1 c.requires.kept.2)
+    made_whole s c.args.c c.args.class c.args.need c.requires.whole seat c.seat.ensures due (due_work s c.args.c c.args.class c.requires.whole seat c.seat.ensures due c.requires.kept.0 c.requires.kept.1 c.requires.kept.2).0 (due_work s c.args.c c.args.class c.requires.whole seat c.seat.ensures due c.requires.kept.0 c.requires.kept.1 c.requires.kept.2).1.0 (due_work s c.args.c c.args.class c.requires.whole seat c.seat.ensures due c.requires.kept.0 c.requires.kept.1 c.requires.kept.2).1.1 (due_opened s c.args.c c.args.class c.requires.whole seat c.seat.ensures due c.requires.kept.0 c.requires.kept.1 c.requires.kept.2).0 (due_opened s c.args.c c.args.class c.requires.whole seat c.seat.ensures due c.requires.kept.0 c.requires.kept.1 c.requires.kept.2).1.0 c.draw_serial-serial.new.self c.id_of-id.new.self c.draw_serial-serial.ensures.serials c.draw_serial-serial.ensures.ids c.operation_of.result.now (subst (λ (o : Option Work). IsSomeAnd o (λ work. work.op ≡ c.operation_of.result.now)) (due_work s c.args.c c.args.class c.requires.whole seat c.seat.ensures due c.requires.kept.0 c.requires.kept.1 c.requires.kept.2).1.0 c.operation_of.ensures) c.id_of-id.ensures.serials c.id_of-id.ensures.ids c.id_of-id.result c.draw_serial-serial.result c.id_of-id.ensures.id c.draw_serial-serial.ensures.serial c.version_to_put-new.result (subst (λ (x : Seat). c.version_to_put-new.result ≡ record { class = c.args.class; id = c.id_of-id.result; serial = c.draw_serial-serial.result; stamp = stamp.By (tx_of x (due_opened s c.args.c c.args.class c.requires.whole seat c.seat.ensures due c.requires.kept.0 c.requires.kept.1 c.requires.kept.2).0); replaces = header_of x.hand.own.items (c.args.class, c.id_of-id.result) }) (same_seat s.transactions.registry.seats c.args.c c.seat-2.result.now seat (subst (λ (r : Roll). seat_of r.seats c.args.c ≡ Some c.seat-2.result.now) c.spend.ensures c.seat-2.ensures) c.seat.ensures) (c.version_to_put-new.ensures (due_opened s c.args.c c.args.class c.requires.whole seat c.seat.ensures due c.requires.kept.0 c.requires.kept.1 c.requires.kept.2).0 (ap (λ (x : Seat). x.transaction) (same_seat s.transactions.registry.seats c.args.c c.seat-2.result.now seat (subst (λ (r : Roll). seat_of r.seats c.args.c ≡ Some c.seat-2.result.now) c.spend.ensures c.seat-2.ensures) c.seat.ensures) ∙ (due_opened s c.args.c c.args.class c.requires.whole seat c.seat.ensures due c.requires.kept.0 c.requires.kept.1 c.requires.kept.2).1.0))) c.spend.new.self c.spend.ensures c.seat_mut-hand.result.now c.lay_put.new.hand c.seat_mut-hand.ensures.value c.lay_put.result c.lay_put.ensures.hand c.lay_put.ensures.leads c.lay_put.ensures.plan c.logged_once.ensures c.requires.kept.0 c.requires.kept.1 c.requires.kept.2 (subst (λ (n : ℕ). n ≤ 1024) (sym (of_work s c.args.c seat c.seat.ensures (due_work s c.args.c c.args.class c.requires.whole seat c.seat.ensures due c.requires.kept.0 c.requires.kept.1 c.requires.kept.2).0 (due_work s c.args.c c.args.class c.requires.whole seat c.seat.ensures due c.requires.kept.0 c.requires.kept.1 c.requires.kept.2).1.0 (λ x work. c.args.need ≡ claim_of s.schema work.op (length work.bytes)) c.requires.need)) (claim_small s.schema (due_work s c.args.c c.args.class c.requires.whole seat c.seat.ensures due c.requires.kept.0 c.requires.kept.1 c.requires.kept.2).0.op (length (due_work s c.args.c c.args.class c.requires.whole seat c.seat.ensures due c.requires.kept.0 c.requires.kept.1 c.requires.kept.2).0.bytes) c.requires.whole.schema ((c.requires.whole.furnished c.args.c.slot seat (in_its_slot s.transactions.registry.seats c.args.c seat c.seat.ensures)).work (due_work s c.args.c c.args.class c.requires.whole seat c.seat.ensures due c.requires.kept.0 c.requires.kept.1 c.requires.kept.2).0 (due_work s c.args.c c.args.class c.requires.whole seat c.seat.ensures due c.requires.kept.0 c.requires.kept.1 c.requires.kept.2).1.0).short)) (due_unput s c.args.c c.args.class c.requires.whole seat c.seat.ensures due c.requires.kept.0 c.requires.kept.1 c.requires.kept.2)
