@@ -41,8 +41,11 @@ module _ (schema : Schema) (manager : Manager) (memory : RegionCells) (roll : Ro
   here : Holds (schema_class schema class) (image_of memory) (class_of memory) (objects_in aimed class)
   here = stands_now schema manager (ground_in memory roll) settled aimed slot seat lawful one agrees at no_plan rests class within latch
 
+  pub holds_aimed : Holds (class_in shapes class) (image_of memory) (class_of memory) (objects_in aimed class)
+  holds_aimed = subst (λ (k : ClassNature). Holds k (image_of memory) (class_of memory) (objects_in aimed class)) (sym (class_same schema shapes class store within)) here
+
   pub holds_some : HoldsSome (class_in shapes class) (image_of memory) (class_of memory)
-  holds_some = (objects_in aimed class, subst (λ (k : ClassNature). Holds k (image_of memory) (class_of memory) (objects_in aimed class)) (sym (class_same schema shapes class store within)) here)
+  holds_some = (objects_in aimed class, holds_aimed)
 
   -- what is so of the objects aimed at is so whatever the class holds
   pub whatever_held : (Is : List Object → Type 0) → Is (objects_in aimed class) → Whatever (class_in shapes class) (image_of memory) (class_of memory) Is

@@ -1,5 +1,5 @@
 -- A connection that has an operation in work on a class, and no plan, gets one.
-use Rattle.std.proofs.Common.{◌≡◌, ◌≢◌, ◌<◌, ◌≤◌, ◌+◌, ◌*◌, ◌++◌, ◌∷◌, ◌||◌, ◌&&◌, ℕ, List, [], length, true, false, not, cond, Option, Some, None, IsSome, IsSomeAnd, Contains, is_some, option_map, refl, sym, ap, subst, ◌∙◌, arith, inl, inr}
+use Rattle.std.proofs.Common.{◌≡◌, ◌≢◌, ◌<◌, ◌≤◌, ◌+◌, ◌*◌, ◌++◌, ◌∷◌, ◌||◌, ◌&&◌, ℕ, List, [], length, true, false, not, cond, Option, Some, None, IsSome, IsSomeAnd, IfNone, IfSome, Contains, is_some, option_map, refl, sym, ap, subst, ◌∙◌, arith, inl, inr}
 use Rattle.std.proofs.lemmas.Bool.{or_right}
 use Rattle.rdb_base.specs.declared.identity.ConnId.{ConnId}
 use Rattle.rdb_base.specs.declared.identity.Kind.TheVariants as kind
@@ -15,11 +15,11 @@ use Rattle.rdb_registry.specs.declared.hand.Work.{Work}
 use Rattle.rdb_registry.specs.declared.seat.Seat.{Seat}
 use Rattle.rdb_registry.specs.declared.seat.Transaction.{Transaction}
 use Rattle.rdb_registry.specs.Registry.{Roll}
-use Rattle.rdb_registry.specs.Seats.{HoldsLatch, Seats, seat_in, seat_of, with_hand}
+use Rattle.rdb_registry.specs.Seats.{HoldsLatch, IsLeastSnapshot, NoneOpen, Seats, openings, seat_in, seat_of, with_hand}
 use Rattle.rdb_registry.proofs.SlotLemmas.{seat_in_other, some_and_of}
 use Rattle.rdb_sight.specs.Versions.{Object, Version, Versions, chain_in, objects_in, with_chain_in}
 use Rattle.rdb_space.specs.Memory.{class_of, image_of}
-use Rattle.rdb_store.specs.Holds.{HoldsSome, Whatever}
+use Rattle.rdb_store.specs.Holds.{Holds, HoldsSome, Whatever}
 use Rattle.rdb_store.specs.Shapes.{class_in}
 use Rattle.rdb_store.specs.Stored.{HasHeader}
 use Rattle.rdb_transactions.specs.Phases.{IsInPhase, IsWriting as IsWritingStill}
@@ -36,12 +36,12 @@ use Rattle.rdb_steps.specs.Kept.{aims, is_dropping, is_rolling_back, takes_back}
 use Rattle.rdb_steps.specs.Laid.{IsPlanOn, LeadsWithout}
 use Rattle.rdb_steps.specs.LaidPlans.{MakesLaid}
 use Rattle.rdb_steps.specs.Lists.{LeadsTo}
-use Rattle.rdb_steps.specs.Making.{IsGarbageAt, with_plan}
+use Rattle.rdb_steps.specs.Making.{IsFloor, IsGarbageAt, with_plan}
 use Rattle.rdb_steps.specs.Phases.{IsWriting, RestsIn}
 use Rattle.rdb_steps.specs.Planning.{FallsWithVersion, IsDue, LaysIn, planning}
 use Rattle.rdb_steps.specs.States.{IsFurnished, IsWhole, Keeps, cell_count, ground_in, ground_of}
 use Rattle.rdb_steps.specs.Steps.{OnlySeat}
-use Rattle.rdb_steps.proofs.ClassHolds.{between, has_cell, holds_some, leads_rest, whatever_held}
+use Rattle.rdb_steps.proofs.ClassHolds.{between, has_cell, holds_aimed, holds_some, leads_rest, whatever_held}
 use Rattle.rdb_steps.proofs.FollowLemmas.{Follows, kept_follows, whole_step}
 use Rattle.rdb_steps.proofs.HandKept.{turned_by}
 use Rattle.rdb_steps.proofs.KeptLemmas.{holders_turned}
@@ -59,6 +59,11 @@ only_hand roll c h = record {
   others = λ i ne. seat_in_other roll.seats c.slot i (option_map (λ (s : Seat). record s { hand = h }) (seat_in roll.seats c.slot)) ne;
   rest = refl;
 }
+
+-- the least open snapshot, if a transaction is open
+pub floor_is : (seats : Seats) (floor : Option ℕ) → IfNone floor (NoneOpen (openings seats)) → IfSome floor (IsLeastSnapshot (openings seats)) → IsFloor seats floor
+floor_is seats None none least = none
+floor_is seats (Some n) none least = least
 
 -- what is left of an operation in work
 pub writing_debt : (m : Manager) (s : Seat) (versions pages : ℕ) → s.condemned ≡ None → s.hand.phase ≡ phase.Writing → debt m s versions pages ≡ work_debt s.hand.work s.hand versions pages
@@ -101,6 +106,9 @@ module _ {P : Type 0} (s : State P) (c : ConnId) (class : ℕ) (whole : IsWhole 
 
   pub due_holds : HoldsSome (class_in s.store class) (image_of s.memory) (class_of s.memory)
   due_holds = holds_some s.schema s.transactions.manager s.memory s.transactions.registry settled aimed c.slot seat whole.lawful kept.one_holder kept.agrees due_at due.plan (inl speaks) s.store whole.store class within due_latch
+
+  pub due_aimed : Holds (class_in s.store class) (image_of s.memory) (class_of s.memory) (objects_in aimed class)
+  due_aimed = holds_aimed s.schema s.transactions.manager s.memory s.transactions.registry settled aimed c.slot seat whole.lawful kept.one_holder kept.agrees due_at due.plan (inl speaks) s.store whole.store class within due_latch
 
   pub due_whatever : (Is : List Object → Type 0) → Is (objects_in aimed class) → Whatever (class_in s.store class) (image_of s.memory) (class_of s.memory) Is
   due_whatever = whatever_held s.schema s.transactions.manager s.memory s.transactions.registry settled aimed c.slot seat whole.lawful kept.one_holder kept.agrees due_at due.plan (inl speaks) s.store whole.store class within due_latch
