@@ -1,5 +1,5 @@
 -- What changes make of a class that stands.
-use Rattle.std.proofs.Common.{◌≡◌, ◌≢◌, ◌<◌, ◌⊎◌, ℕ, zero, suc, List, [], ◌∷◌, ◌++◌, slice_get, Option, Some, None, inl, inr, refl, sym, ap, subst, ◌∙◌, arith}
+use Rattle.std.proofs.Common.{◌≡◌, ◌≢◌, ◌<◌, ◌⊎◌, ℕ, zero, suc, List, [], ◌∷◌, ◌++◌, slice_get, Option, Some, None, IfSome, IfNone, inl, inr, refl, sym, ap, subst, ◌∙◌, arith}
 use Rattle.std.proofs.lemmas.List.Elements.{Contains-append_left, Contains-append_right, Contains-append_cases}
 use Rattle.std.specs.List.{Contains}
 use Rattle.std.specs.Option.{option_map_or}
@@ -10,6 +10,7 @@ use Rattle.rdb_cells.specs.Overlays.{Laid}
 use Rattle.rdb_cells.specs.Records.{Record}
 use Rattle.rdb_cells.specs.Work.{Work, reading}
 use Rattle.rdb_objects.specs.Objects.{newest_version}
+use Rattle.rdb_objects.specs.Slots.{HoldsObjects, Whatever as WhateverSlots}
 use Rattle.rdb_sight.specs.Versions.{Version, Object, IsWithout, chain_of, with_chain}
 use Rattle.rdb_store.specs.Chains.{IsWithoutHeader, IsLeft, CanReplace, IsNewSerial}
 use Rattle.rdb_store.specs.Classes.{ClassNature}
@@ -143,3 +144,15 @@ none_in (v ∷ vs) first = absurd (cc)
 
 pub none_is : (objects : List Object) (id : ℕ) → newest_version (all_linked objects) id ≡ None → chain_of objects id ≡ []
 none_is objects id first = none_in (chain_of objects id) (ap (λ (rs : List CellRef). slice_get rs 0) (sym (linked_versions objects id)) ∙ first)
+
+told_of : (class : ClassNature) (image : Image) (class_of : ℕ → Option ℕ) (id number : ℕ) (result : Option CellRef) → number ≡ class.number → WhateverSlots image number (λ objects slots. result ≡ newest_version objects id) → (objects : List Object) → Holds class image class_of objects → newest_version (all_linked objects) id ≡ result
+told_of class image class_of id number result same told objects holds =
+    sym (told (all_linked objects) holds.0.slots (subst (λ (n : ℕ). HoldsObjects image n (all_linked objects) holds.0.slots) (sym same) holds.1.slots))
+
+pub some_newest : (class : ClassNature) (image : Image) (class_of : ℕ → Option ℕ) (id number : ℕ) (result : Option CellRef) → number ≡ class.number → WhateverSlots image number (λ objects slots. result ≡ newest_version objects id) → IfSome result (λ r. Whatever class image class_of (λ objects. IsNewest objects id r))
+some_newest class image class_of id number None same told = tt
+some_newest class image class_of id number (Some r) same told = λ objects holds. newest_is objects id r (told_of class image class_of id number (Some r) same told objects holds)
+
+pub none_newest : (class : ClassNature) (image : Image) (class_of : ℕ → Option ℕ) (id number : ℕ) (result : Option CellRef) → number ≡ class.number → WhateverSlots image number (λ objects slots. result ≡ newest_version objects id) → IfNone result (Whatever class image class_of (λ objects. chain_of objects id ≡ []))
+none_newest class image class_of id number (Some r) same told = tt
+none_newest class image class_of id number None same told = λ objects holds. none_is objects id (told_of class image class_of id number None same told objects holds)

@@ -109,5 +109,7 @@ pub fn newest<C: Cells>(store: &Store, cells: &C, class: u32, id: u64) -> Option
     ensures none { IfNone result (Whatever (class_in store.now class) (C.image cells.now) (C.class_of cells.now)
         (λ objects. chain_of objects id ≡ [])) }
 {
-    store.class(class).objects().newest_version(cells, id)
+    let kept = store.class(class);
+    let objects = kept.objects();
+    objects.newest_version(cells, id)
 }
