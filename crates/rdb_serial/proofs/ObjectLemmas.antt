@@ -112,10 +112,10 @@ makes_newly (op.New class row was) id drawn now is object made = go (nat_eq clas
         let one : id ≡ object.1 = grind (arith, nat_tests) in
         subst (λ (k : ℕ). (slice_index drawn k < object.1) × (object.1 ≤ slice_index now k)) same
         (subst (λ (n : ℕ). (slice_index drawn class < n) × (n ≤ slice_index now class)) one (is.above, is.counted))
-    go true e false f h = (cc)
-    go false e b f h = (cc)
-makes_newly (op.Put class named row) id drawn now is object made = (cc)
-makes_newly (op.Del class named) id drawn now is object made = (cc)
+    go true e false f h = absurd (cc)
+    go false e b f h = absurd (cc)
+makes_newly (op.Put class named row) id drawn now is object made = absurd (cc)
+makes_newly (op.Del class named) id drawn now is object made = absurd (cc)
 makes_newly (op.Get class named) id drawn now is object made = absurd is
 makes_newly (op.Find class at wanted) id drawn now is object made = absurd is
 makes_newly (op.Seek class at from up) id drawn now is object made = absurd is

@@ -301,7 +301,8 @@ pub record EndsRolledBack (before after : History) (slot : ℕ) : Type 0 where
 
 -- no other connection has an open transaction
 abbrev pub IsAlone : Course → ℕ → Type 0
-IsAlone course slot = (other : ℕ) (p : Progress) (t : Transaction) → other ≢ slot → course other ≡ Some p → p.transaction ≡ Some t → ⊥
+IsAlone course slot = (other : ℕ) (p : Progress) (t : Transaction) → other ≢ slot → course other ≡ Some p
+    → p.transaction ≡ Some t → ⊥
 
 -- What a mark asks where many may write: no commit above its snapshot touches the story, and the connection holds no latch.
 pub record MayMarkAmongMany (schema : Schema) (h : History) (p : Progress) (t : Transaction) : Type 0 where
