@@ -1,15 +1,14 @@
 -- Before anything is done.
-use Rattle.std.proofs.Common.{◌≡◌, ◌≢◌, ◌⊎◌, inl, inr, ℕ, ◌<◌, List, [], ◌∷◌, length, replicate, slice_get, Option, Some, None, refl, sym, subst, arith}
+use Rattle.std.proofs.Common.{◌≡◌, inl, ℕ, List, [], length, replicate, Some, None, refl, sym, subst, arith}
 use Rattle.std.proofs.lemmas.List.{length-replicate}
 use Rattle.std.proofs.lemmas.Option.{slice_get_within}
 use Rattle.rdb_base.specs.declared.identity.Manager.{Manager}
-use Rattle.rdb_base.specs.declared.journal.Entry.{Entry}
 use Rattle.rdb_schema.specs.declared.schema.Schema.{Schema}
 use Rattle.rdb_sight.specs.Versions.{Object}
 use Rattle.rdb_model.specs.declared.legality.Span.TheVariants as span
 use Rattle.rdb_model.proofs.PartLemmas.{law_from}
 use Rattle.rdb_shown.proofs.NothingLemmas.{shows_nothing, nothing_kept}
-use Rattle.rdb_serial.specs.Progress.{Progress, marks_of}
+use Rattle.rdb_serial.specs.Progress.{marks_of}
 use Rattle.rdb_serial.specs.Histories.{History, scene_of}
 use Rattle.rdb_serial.specs.Serial.{IsScene, IsSerial}
 use Rattle.rdb_serial.specs.Moves.{IsEmpty}

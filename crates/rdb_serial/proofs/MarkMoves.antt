@@ -1,5 +1,5 @@
 -- A transaction is marked as the next commit: its story goes into the journal, and what it aims at is settled.
-use Rattle.std.proofs.Common.{◌≡◌, ◌≢◌, ◌⊎◌, inl, inr, ℕ, zero, suc, ◌+◌, ◌-◌, ◌<◌, ◌≤◌, Bool, true, false, ◌&&◌, ◌||◌, ◌==◌, List, [], ◌∷◌, ◌++◌, length, slice_index, get_or, Option, Some, None, IsSome, is_some, nat_eq, refl, sym, ap, subst, ◌∙◌, arith, append-nil, length-set, Contains}
+use Rattle.std.proofs.Common.{◌≡◌, ◌≢◌, ◌⊎◌, inl, inr, ℕ, zero, suc, ◌+◌, ◌-◌, ◌<◌, ◌≤◌, Bool, true, false, ◌&&◌, ◌||◌, ◌==◌, List, [], ◌∷◌, ◌++◌, length, get_or, Some, None, IsSome, is_some, nat_eq, refl, sym, ap, subst, ◌∙◌, arith, length-set, Contains}
 use Rattle.std.specs.List.{All}
 use Rattle.std.proofs.lemmas.Bool.Decides.{nat_tests}
 use Rattle.std.proofs.lemmas.List.{ext_get_or}
@@ -10,7 +10,6 @@ use Rattle.rdb_base.specs.declared.identity.Kind.{Kind}
 use Rattle.rdb_base.specs.declared.identity.Kind.TheVariants as kinds
 use Rattle.rdb_base.specs.declared.identity.Manager.{Manager}
 use Rattle.rdb_base.specs.declared.identity.Manager.TheVariants as managers
-use Rattle.rdb_base.specs.declared.identity.TxId.{TxId}
 use Rattle.rdb_base.specs.declared.operation.Op.{Op}
 use Rattle.rdb_base.specs.declared.operation.Reply.{Reply}
 use Rattle.rdb_base.specs.declared.journal.Story.{Story}
@@ -38,17 +37,17 @@ use Rattle.rdb_shown.proofs.CommitLemmas.{commit_shown}
 use Rattle.rdb_shown.proofs.KeptLemmas.{in_order}
 use Rattle.rdb_shown.proofs.MarkLemmas.{earlier_shown, marked_work}
 use Rattle.rdb_shown.proofs.MarkedChains.{marked_kept}
-use Rattle.rdb_serial.specs.Progress.{Progress, Course, tx_of, holds, so_far, done_by_plan, story_with, marks_of}
-use Rattle.rdb_serial.specs.Histories.{History, Scene, scene_of, view, view_in, shown_to, AreSameIn, with_class, IsFloor, IsPlanned}
-use Rattle.rdb_serial.specs.Serial.{IsAbortAllowed, AreDrawn, IsScene, IsBegun, ShowsCommits, IsGoingOn, IsOpen, IsConnection, StoriesAreApart, IsSerial}
-use Rattle.rdb_serial.specs.Moves.{Turns, MayMarkAmongMany, MayMarkAlone, next_commit, marks, Marks}
+use Rattle.rdb_serial.specs.Progress.{Progress, tx_of, holds, so_far, done_by_plan, story_with, marks_of}
+use Rattle.rdb_serial.specs.Histories.{History, Scene, scene_of, view, view_in, AreSameIn, with_class, IsFloor, IsPlanned}
+use Rattle.rdb_serial.specs.Serial.{IsAbortAllowed, AreDrawn, IsScene, IsBegun, ShowsCommits, IsGoingOn, IsOpen, IsConnection, IsSerial}
+use Rattle.rdb_serial.specs.Moves.{next_commit, marks, Marks}
 use Rattle.rdb_serial.proofs.ViewLemmas.{same_versions, length_view, view_latched, view_either, view_is, class_here, class_elsewhere}
 use Rattle.rdb_serial.proofs.ClassLemmas.{KeptIn, kept_in, kept_by_class, kept_either}
 use Rattle.rdb_serial.proofs.ProgressLemmas.{marks_more, apart_txs}
 use Rattle.rdb_serial.proofs.ChangeLemmas.{change_kept, change_there, moved_change}
 use Rattle.rdb_serial.proofs.CarryLemmas.{Carries, carried, begun_more, snapshot_there}
 use Rattle.rdb_serial.proofs.TurnLemmas.{apart_turned, turned}
-use Rattle.rdb_serial.proofs.StillLemmas.{StaysIn, floors_stay, plan_stays, agrees_turned, makes_nothing, nothing_so_far, connection_of}
+use Rattle.rdb_serial.proofs.StillLemmas.{floors_stay, plan_stays, agrees_turned, makes_nothing, nothing_so_far, connection_of}
 use Rattle.rdb_serial.proofs.StoryLemmas.{run_front, never}
 use Rattle.rdb_serial.proofs.StoryMoves.{as_many}
 use Rattle.rdb_serial.proofs.EntryLemmas.{ended_before, unended_still, ends_others, ends_own, placed}

@@ -1,16 +1,13 @@
 -- The own plan of an operation in work is made: its connection sees the operation done, and nobody else sees anything.
-use Rattle.std.proofs.Common.{◌≡◌, ◌≢◌, ◌⊎◌, inl, inr, ℕ, ◌<◌, ◌≤◌, Bool, true, false, cond, List, [], ◌∷◌, ◌++◌, length, slice_index, Option, Some, None, is_some, refl, sym, ap, subst, ◌∙◌, arith, append-nil}
+use Rattle.std.proofs.Common.{◌≡◌, ◌≢◌, ◌⊎◌, inl, inr, ℕ, ◌<◌, ◌≤◌, true, false, cond, List, [], ◌∷◌, ◌++◌, slice_index, Option, Some, None, is_some, refl, sym, ap, subst, ◌∙◌, arith, append-nil}
 use Rattle.rdb_base.specs.declared.identity.Manager.{Manager}
-use Rattle.rdb_base.specs.declared.identity.TxId.{TxId}
 use Rattle.rdb_base.specs.declared.operation.Op.{Op}
 use Rattle.rdb_base.specs.declared.operation.Reply.{Reply}
 use Rattle.rdb_base.specs.Operations.{class_of}
 use Rattle.rdb_pages.specs.declared.cell.CellRef.{CellRef}
 use Rattle.rdb_schema.specs.declared.schema.Schema.{Schema}
 use Rattle.rdb_registry.specs.declared.hand.Work.{Work}
-use Rattle.rdb_registry.specs.declared.seat.Transaction.{Transaction}
-use Rattle.rdb_sight.specs.Versions.{Versions, Marks, shown}
-use Rattle.rdb_model.specs.Database.{Row, Database}
+use Rattle.rdb_model.specs.Database.{Row}
 use Rattle.rdb_model.specs.Fits.{Fits, AllFit}
 use Rattle.rdb_model.specs.Story.{run}
 use Rattle.rdb_model.specs.Journal.{commits, fold, made_in, made_before, was_made}
@@ -19,10 +16,10 @@ use Rattle.rdb_history.specs.Rows.{row_left}
 use Rattle.rdb_history.proofs.StoryLemmas.{anew_more}
 use Rattle.rdb_shown.specs.Kept.{IsWork}
 use Rattle.rdb_shown.specs.Changes.{Puts}
-use Rattle.rdb_serial.specs.Progress.{Progress, Course, tx_of, holds, reply_when_done, done_by_plan, so_far, marks_of}
-use Rattle.rdb_serial.specs.Histories.{History, Scene, scene_of, view, view_in, shown_to, IsFloor, AreHeldOnce}
-use Rattle.rdb_serial.specs.Serial.{AreDrawn, IsUnrefused, IsGoingOn, IsOpen, IsConnection, StoriesAreApart, IsSerial}
-use Rattle.rdb_serial.specs.Moves.{Turns, IsToPlan, with_id, WritesObject, PlansOwn}
+use Rattle.rdb_serial.specs.Progress.{Progress, tx_of, reply_when_done, done_by_plan, so_far, marks_of}
+use Rattle.rdb_serial.specs.Histories.{History, scene_of, view, shown_to, AreHeldOnce}
+use Rattle.rdb_serial.specs.Serial.{AreDrawn, IsUnrefused, IsGoingOn, IsOpen, IsConnection, IsSerial}
+use Rattle.rdb_serial.specs.Moves.{with_id, PlansOwn}
 use Rattle.rdb_serial.proofs.ChangeLemmas.{change_shown, moved_put}
 use Rattle.rdb_serial.proofs.CarryLemmas.{drawn_more}
 use Rattle.rdb_serial.proofs.TurnLemmas.{made_of, apart_fresh}
@@ -31,7 +28,7 @@ use Rattle.rdb_serial.proofs.StoryLemmas.{run_more, made_with, fits_more}
 use Rattle.rdb_serial.proofs.PlanMoves.{aims_at_settled, Planning, planned, view_kept, view_there, view_long, view_was, view_now, view_elsewhere, view_change, unmarked_tx}
 use Rattle.rdb_serial.proofs.GivingMoves.{held_by_one, begun_again}
 use Rattle.rdb_serial.proofs.PutLemmas.{put_shown, put_work}
-use Rattle.rdb_serial.proofs.ObjectLemmas.{done_with, not_so, writes_it, same_row, fits_still, unrefused_still, draws_more, IsNewlyDrawn, makes_newly, makes_none_again, made_either, drawn_both}
+use Rattle.rdb_serial.proofs.ObjectLemmas.{done_with, not_so, writes_it, same_row, fits_still, unrefused_still, draws_more, makes_newly, makes_none_again, made_either, drawn_both}
 
 -- the progress of a connection whose own plan is made
 abbrev planning : Work → Progress → Progress

@@ -1,5 +1,5 @@
 -- A version that a transaction puts: what it is shown, and what its work is.
-use Rattle.std.proofs.Common.{◌≡◌, ℕ, ◌<◌, List, [], ◌∷◌, ◌++◌, length, Option, Some, None, cond, refl, sym, ap, ◌∙◌, arith}
+use Rattle.std.proofs.Common.{◌≡◌, ℕ, ◌<◌, List, [], ◌∷◌, ◌++◌, length, Some, None, cond, sym, ap, ◌∙◌, arith}
 use Rattle.std.proofs.lemmas.List.{length-map}
 use Rattle.rdb_base.specs.declared.identity.TxId.{TxId}
 use Rattle.rdb_base.specs.declared.operation.Op.{Op}
@@ -7,7 +7,7 @@ use Rattle.rdb_base.specs.declared.operation.Reply.{Reply}
 use Rattle.rdb_base.specs.declared.journal.Entry.{Entry}
 use Rattle.rdb_schema.specs.declared.schema.Schema.{Schema}
 use Rattle.rdb_sight.specs.Versions.{Versions, Marks, chain_in, row_shown, rows_shown, shown}
-use Rattle.rdb_model.specs.Database.{Database, row_of, objects_of}
+use Rattle.rdb_model.specs.Database.{row_of, objects_of}
 use Rattle.rdb_model.specs.Answer.{answer}
 use Rattle.rdb_model.specs.Touch.{written_by}
 use Rattle.rdb_model.proofs.OrderedLemmas.{answer_in_order}

@@ -1,5 +1,5 @@
 -- The last cell of a plan is written where many may write: what its connection aims at is settled, and others see what they saw.
-use Rattle.std.proofs.Common.{◌≡◌, ◌≢◌, ◌⊎◌, inl, inr, ℕ, ◌<◌, ◌≤◌, Bool, true, false, List, [], ◌∷◌, ◌++◌, length, slice_index, Option, Some, None, refl, sym, ap, subst, ◌∙◌, arith, append-nil, length-set}
+use Rattle.std.proofs.Common.{◌≡◌, ◌≢◌, ◌⊎◌, inl, inr, ℕ, ◌<◌, ◌≤◌, Bool, true, false, List, [], length, Option, Some, None, refl, sym, ap, subst, ◌∙◌, arith, append-nil, length-set}
 use Rattle.rdb_base.specs.declared.identity.Manager.{Manager}
 use Rattle.rdb_base.specs.declared.identity.Manager.TheVariants as managers
 use Rattle.rdb_base.specs.declared.identity.TxId.{TxId}
@@ -8,13 +8,13 @@ use Rattle.rdb_base.specs.declared.operation.Reply.{Reply}
 use Rattle.rdb_base.specs.declared.journal.Entry.{Entry}
 use Rattle.rdb_schema.specs.declared.schema.Schema.{Schema}
 use Rattle.rdb_registry.specs.declared.seat.Transaction.{Transaction}
-use Rattle.rdb_sight.specs.Versions.{Versions, Marks, objects_in, rows_shown, shown}
-use Rattle.rdb_model.specs.Journal.{commits, made_in, was_made}
+use Rattle.rdb_sight.specs.Versions.{Versions, objects_in, rows_shown, shown}
+use Rattle.rdb_model.specs.Journal.{commits}
 use Rattle.rdb_shown.specs.Kept.{AreVersions, IsWork}
 use Rattle.rdb_serial.specs.Progress.{Progress, Course, tx_of, holds, so_far, mark_in, marks_of}
-use Rattle.rdb_serial.specs.Histories.{History, Scene, scene_of, view, view_in, AreSameIn, with_class, IsFloor, IsOneChange, IsPlanned, AreHeldOnce}
+use Rattle.rdb_serial.specs.Histories.{History, Scene, scene_of, view, AreSameIn, with_class, IsFloor, IsOneChange, IsPlanned, AreHeldOnce}
 use Rattle.rdb_serial.specs.Serial.{IsScene, IsGoingOn, IsOpen, IsConnection, IsSerial}
-use Rattle.rdb_serial.specs.Moves.{Turns, Settles, WritesOut}
+use Rattle.rdb_serial.specs.Moves.{Settles, WritesOut}
 use Rattle.rdb_serial.proofs.ViewLemmas.{length_view, view_latched, view_free, view_either, views_are_one, class_here, class_elsewhere}
 use Rattle.rdb_serial.proofs.ClassLemmas.{shown_by_class, class_shown, WorkIn, work_in, work_by_class, kept_either}
 use Rattle.rdb_serial.proofs.ProgressLemmas.{mark_by, marks_same, apart_txs}
