@@ -40,3 +40,7 @@ pub mod StateWrites
 pub mod BackLemmas
 pub mod StateBacks
 pub mod RoomLemmas
+pub mod WrittenLemmas
+pub mod FollowLemmas
+pub mod WholeSteps
+pub mod NearLemmas

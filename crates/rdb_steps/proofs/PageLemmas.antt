@@ -21,14 +21,14 @@ no_some None e some = false≢true some
 no_some (Some x) e some = absurd cc
 
 module _ (before after : RegionCells) (roll : Roll) (class page : ℕ) (bounded : AreBounded (image_of before) (class_of before)) (grants : GrantsPage before after class page) where
-  in_page_or_not : (n : ℕ) → IsInPage page n ⊎ (¬ IsInPage page n)
+  pub in_page_or_not : (n : ℕ) → IsInPage page n ⊎ (¬ IsInPage page n)
   in_page_or_not zero = inr (λ within. let some = within.0 in omega arith)
   in_page_or_not (suc n) = elim (which ((suc n - 1) / page_cells) page) [
     | inl same ↦ inl (omega arith, same)
     | inr other ↦ inr (λ within. other within.1)
   ]
 
-  outside : (n : ℕ) → IsSome (class_of before n) → ¬ IsInPage page n
+  pub outside : (n : ℕ) → IsSome (class_of before n) → ¬ IsInPage page n
   outside n there within = no_some (image_of before n) (grants.was n within) (bounded.cells n there)
 
   pub page_grows : Grows (ground_in before roll) (ground_in after roll)

@@ -1,79 +1,34 @@
 -- An undo record with a place for each cell of the region has room for any plan: its cells and those of the plan are different ones.
-use Rattle.std.proofs.Common.{◌≡◌, ◌≢◌, ◌⊎◌, ◌<◌, ◌≤◌, ◌+◌, ◌-◌, ◌*◌, ◌/◌, ◌%◌, ◌==◌, ◌||◌, ◌∷◌, ◌++◌, ℕ, zero, suc, List, [], length, map, filter, sum_by, count_by, slice_get, Bool, true, false, not, cond, Option, Some, None, IsSome, nat_lt, eqb, is_some, option_and_then, refl, sym, ap, subst, ◌∙◌, arith, inl, inr, eq-eqb, eqb-true, length-append, div-add-mod', div-lt_iff_lt-mul, mod-lt}
+use Rattle.std.proofs.Common.{◌≡◌, ◌⊎◌, ◌<◌, ◌≤◌, ◌+◌, ◌-◌, ◌*◌, ◌/◌, ◌==◌, ◌∷◌, ◌++◌, ℕ, zero, suc, List, [], length, map, filter, count_by, slice_get, Bool, true, false, not, cond, Option, Some, None, IsSome, nat_lt, eqb, refl, sym, ap, ◌∙◌, arith, inl, inr, eq-eqb, eqb-true, length-append}
 use Rattle.std.specs.List.{AllByRecursion, IsDistinct, list_any}
-use Rattle.std.specs.Option.{option_flatten}
-use Rattle.std.proofs.lemmas.Bool.{false≢true, ltb-true, ltb-false, cases_lt, or_parts, or_cases, or_left, false_from_ne_true}
+use Rattle.std.specs.Option.{option_flatten, option_map}
+use Rattle.std.proofs.lemmas.Bool.{false≢true, ltb-false, or_parts, or_cases, or_left, false_from_ne_true}
 use Rattle.std.proofs.Permutation.{which}
 use Rattle.std.proofs.Math.Nat.{lt-div-mul-add}
 use Rattle.std.proofs.lemmas.List.{length-map}
 use Rattle.std.proofs.lemmas.List.Sums.{sum_by-cons}
 use Rattle.std.proofs.lemmas.Map.Steps.{length-le_from_distinct_below}
-use Rattle.std.proofs.lemmas.Option.{slice_get_within}
-use Rattle.rdb_pages.specs.declared.cell.Cell.{Cell}
-use Rattle.rdb_pages.specs.declared.cell.CellRef.{CellRef}
-use Rattle.rdb_pages.specs.Pages.{cell_of, cells_of, page_cells}
+use Rattle.rdb_schema.specs.declared.schema.Schema.{Schema}
+use Rattle.rdb_pages.specs.Pages.{page_cells}
 use Rattle.rdb_cells.specs.declared.pairs.Pair.{Pair}
-use Rattle.rdb_cells.specs.Images.{IsCell}
 use Rattle.rdb_cells.specs.Places.{AreDifferent}
 use Rattle.rdb_cells.specs.Records.{names, numbers_of}
-use Rattle.rdb_cells.specs.References.{first_head, class_of_head, heads_of_a_class}
+use Rattle.rdb_cells.specs.References.{first_head, class_of_head}
 use Rattle.rdb_cells.proofs.PairLemmas.{different-head, different-tail, names_none, any_right}
-use Rattle.rdb_cells.proofs.SettledLemmas.{true_or_false}
 use Rattle.rdb_registry.specs.declared.hand.Hand.{Hand}
-use Rattle.rdb_space.specs.Heads.{head_at, place_of_head}
-use Rattle.rdb_space.specs.Memory.{RegionCells, image_of}
+use Rattle.rdb_space.specs.Heads.{head_at}
+use Rattle.rdb_space.specs.Memory.{RegionCells, class_of}
 use Rattle.rdb_writes.specs.Grounds.{WorksOn, HasPlaces}
-use Rattle.rdb_steps.specs.States.{cell_count}
-
--- the place of a head among all heads
-head_place : List (List Cell) → ℕ → ℕ → ℕ
-head_place [] class place = 0
-head_place (own ∷ heads) zero place = place
-head_place (own ∷ heads) (suc class) place = length own + head_place heads class place
-
--- there is a head of this class at this place
-abbrev IsHeadAt : List (List Cell) → ℕ → ℕ → Type 0
-IsHeadAt heads class place = (own : List Cell) × (slice_get heads class ≡ Some own) × (place < length own)
-
-head_below : (heads : List (List Cell)) (class place : ℕ) → IsHeadAt heads class place → head_place heads class place < sum_by length heads
-unfolding head_place
-head_below [] class place at = absurd (let none : None ≡ Some at.0 = at.1 in cc)
-head_below (own ∷ heads) zero place at =
-    let sums = sum_by-cons length own heads in
-    let same : own ≡ at.0 = let both : Some own ≡ Some at.0 = at.1 in cc in
-    let few = at.2 in
-    let lengths : length own ≡ length at.0 = ap length same in
-    omega (arith, sums, few, lengths)
-head_below (own ∷ heads) (suc class) place at =
-    let sums = sum_by-cons length own heads in
-    let rest = head_below heads class place at in
-    omega (arith, sums, rest)
-
-same_head : (heads : List (List Cell)) (class place other there : ℕ) → IsHeadAt heads class place → IsHeadAt heads other there → head_place heads class place ≡ head_place heads other there → (class ≡ other) × (place ≡ there)
-unfolding head_place
-same_head [] class place other there at at_other e = absurd (let none : None ≡ Some at.0 = at.1 in cc)
-same_head (own ∷ heads) zero place zero there at at_other e = (refl, e)
-same_head (own ∷ heads) zero place (suc other) there at at_other e =
-    let same : own ≡ at.0 = let both : Some own ≡ Some at.0 = at.1 in cc in
-    let few = at.2 in
-    let lengths : length own ≡ length at.0 = ap length same in
-    absurd (omega (arith, few, lengths, e))
-same_head (own ∷ heads) (suc class) place zero there at at_other e =
-    let same : own ≡ at_other.0 = let both : Some own ≡ Some at_other.0 = at_other.1 in cc in
-    let few = at_other.2 in
-    let lengths : length own ≡ length at_other.0 = ap length same in
-    absurd (omega (arith, few, lengths, e))
-same_head (own ∷ heads) (suc class) place (suc other) there at at_other e =
-    let rest = same_head heads class place other there at at_other (omega (arith, e)) in
-    (ap suc rest.0, rest.1)
+use Rattle.rdb_steps.specs.States.{HasClasses, cell_count}
 
 -- the place of a cell among all cells of the region
 place_in : RegionCells → ℕ → ℕ
-place_in m n = cond (nat_lt n first_head) (n - 1) (page_cells * length m.pages + head_place m.heads (class_of_head n) (place_of_head n))
+place_in m n = cond (nat_lt n first_head) (n - 1) (page_cells * length m.owners + (n - first_head))
 
-and_then_some : {A B : Type 0} (f : A → Option B) (o : Option A) → IsSome (option_and_then f o) → (x : A) × (o ≡ Some x) × IsSome (f x)
-and_then_some f None some = absurd (false≢true some)
-and_then_some f (Some x) some = (x, refl, some)
+-- a result that is the same for whatever is there
+same_for_all : {A : Type 0} (o : Option A) (class : ℕ) → IsSome (option_map (λ x. class) o) → option_map (λ x. class) o ≡ Some class
+same_for_all None class some = absurd (false≢true some)
+same_for_all (Some x) class some = refl
 
 -- what is there in a slot of a list
 within_if : {A : Type 0} (xs : List A) (i : ℕ) → IsSome (slice_get xs i) → i < length xs
@@ -85,58 +40,52 @@ flat_some : {A : Type 0} (o : Option (Option A)) → IsSome (option_flatten o) �
 flat_some None some = absurd (false≢true some)
 flat_some (Some x) some = refl
 
-module _ (m : RegionCells) where
-  page_within : (n : ℕ) → IsSome (cell_of m.pages (record { number = n })) → (n - 1) / 64 < length m.pages
-  page_within n some =
-      let there = and_then_some (λ cells. slice_get cells ((n - 1) % 64)) (cells_of m.pages ((n - 1) / 64)) some in
-      within_if m.pages ((n - 1) / 64) (flat_some (slice_get m.pages ((n - 1) / 64)) (ap is_some there.1))
-
-  head_there : (n : ℕ) → IsSome (head_at m.heads n) → IsHeadAt m.heads (class_of_head n) (place_of_head n)
-  head_there n some =
-      let there = and_then_some (λ own. slice_get own (place_of_head n)) (slice_get m.heads (class_of_head n)) some in
-      (there.0, there.1, within_if there.0 (place_of_head n) there.2)
-
+module _ (schema : Schema) (m : RegionCells) (classes : HasClasses schema m) where
   -- a cell of a page, or a head
   data IsOne : ℕ → Type 0 where
-    of_page : {n : ℕ} → nat_lt n first_head ≡ true → 0 < n → (n - 1) / 64 < length m.pages → IsOne n
-    of_head : {n : ℕ} → nat_lt n first_head ≡ false → IsHeadAt m.heads (class_of_head n) (place_of_head n) → IsOne n
+    of_page : {n : ℕ} → nat_lt n first_head ≡ true → 0 < n → (n - 1) / 64 < length m.owners → IsOne n
+    of_head : {n : ℕ} → nat_lt n first_head ≡ false → (n - 2000000) / 16 < length schema.classes → IsOne n
 
-  is_one : (n : ℕ) → IsCell (image_of m) n → IsOne n
+  is_one : (n : ℕ) → IsSome (class_of m n) → IsOne n
   is_one n some = go (n == 0) (nat_lt n first_head) refl refl some
     where
-      go : (z b : Bool) → (n == 0) ≡ z → nat_lt n first_head ≡ b → IsSome (cond z None (cond b (cell_of m.pages (record { number = n })) (head_at m.heads n))) → IsOne n
+      go : (z b : Bool) → (n == 0) ≡ z → nat_lt n first_head ≡ b →
+          IsSome (cond z None (cond b (option_flatten (slice_get m.owners ((n - 1) / 64))) (option_map (λ head. class_of_head n) (head_at m.heads n)))) → IsOne n
       go true b none below some = absurd (false≢true some)
       go false true some_number below some =
           let positive : 0 < n = elim (which n 0) [
             | inl none ↦ absurd (false≢true (sym some_number ∙ eq-eqb n 0 none))
             | inr some_one ↦ omega (arith, some_one)
           ] in
-          of_page below positive (page_within n some)
-      go false false some_number below some = of_head below (head_there n some)
+          of_page below positive (within_if m.owners ((n - 1) / 64) (flat_some (slice_get m.owners ((n - 1) / 64)) some))
+      go false false some_number above some =
+          let is : class_of m n ≡ Some (class_of_head n) =
+          (λ i. cond (some_number i) None (cond (above i) (option_flatten (slice_get m.owners ((n - 1) / 64))) (option_map (λ head. class_of_head n) (head_at m.heads n))))
+          ∙ same_for_all (head_at m.heads n) (class_of_head n) some in
+          of_head above (classes.only n (class_of_head n) is)
 
   place_page : (n : ℕ) → nat_lt n first_head ≡ true → place_in m n ≡ n - 1
   unfolding place_in
-  place_page n below = ap (λ b. cond b (n - 1) (64 * length m.pages + head_place m.heads (class_of_head n) (place_of_head n))) below
+  place_page n below = ap (λ b. cond b (n - 1) (64 * length m.owners + (n - first_head))) below
 
-  place_head : (n : ℕ) → nat_lt n first_head ≡ false → place_in m n ≡ 64 * length m.pages + head_place m.heads (class_of_head n) (place_of_head n)
+  place_head : (n : ℕ) → nat_lt n first_head ≡ false → place_in m n ≡ 64 * length m.owners + (n - 2000000)
   unfolding place_in
-  place_head n above = ap (λ b. cond b (n - 1) (64 * length m.pages + head_place m.heads (class_of_head n) (place_of_head n))) above
+  place_head n above = ap (λ b. cond b (n - 1) (64 * length m.owners + (n - first_head))) above
 
-  number_below : (n : ℕ) → (n - 1) / 64 < length m.pages → n - 1 < 64 * length m.pages
+  number_below : (n : ℕ) → (n - 1) / 64 < length m.owners → n - 1 < 64 * length m.owners
   number_below n within =
-      let pages = (n - 1) / 64 in
       let low : n - 1 < (n - 1) / 64 * 64 + 64 = lt-div-mul-add (omega arith) in
       omega (arith, low, within)
 
-  place_below : (n : ℕ) → IsOne n → place_in m n < cell_count m
+  place_below : (n : ℕ) → IsOne n → place_in m n < cell_count schema m
   place_below n (of_page below positive within) =
       let number = number_below n within in
       let is = place_page n below in
       omega (arith, number, is)
   place_below n (of_head above there) =
-      let rest = head_below m.heads (class_of_head n) (place_of_head n) there in
+      let low : n - 2000000 < (n - 2000000) / 16 * 16 + 16 = lt-div-mul-add (omega arith) in
       let is = place_head n above in
-      omega (arith, rest, is)
+      omega (arith, low, is, there)
 
   same_place : (n other : ℕ) → IsOne n → IsOne other → place_in m n ≡ place_in m other → n ≡ other
   same_place n other (of_page below positive within) (of_page below_too positive_too within_too) e =
@@ -156,15 +105,9 @@ module _ (m : RegionCells) where
   same_place n other (of_head above there) (of_head above_too there_too) e =
       let is = place_head n above in
       let is_too = place_head other above_too in
-      let heads : head_place m.heads (class_of_head n) (place_of_head n) ≡ head_place m.heads (class_of_head other) (place_of_head other) = omega (arith, is, is_too, e) in
-      let both = same_head m.heads (class_of_head n) (place_of_head n) (class_of_head other) (place_of_head other) there there_too heads in
-      let class : (n - 2000000) / 16 ≡ (other - 2000000) / 16 = both.0 in
-      let place : (n - 2000000) % 16 ≡ (other - 2000000) % 16 = both.1 in
-      let whole = div-add-mod' (n - 2000000) 16 in
-      let whole_too = div-add-mod' (other - 2000000) 16 in
       let high : 2000000 ≤ n = ltb-false n 2000000 above in
       let high_too : 2000000 ≤ other = ltb-false other 2000000 above_too in
-      omega (arith, class, place, whole, whole_too, high, high_too)
+      omega (arith, is, is_too, e, high, high_too)
 
   -- each cell of a list of pairs once
   Differ : List Pair → Type 0
@@ -192,7 +135,7 @@ module _ (m : RegionCells) where
     | inr rest ↦ any_right (p.at.number == n) (names ps n) (named_there n one ps (λ k named. ones k (any_right (p.at.number == k) (names ps k) named)) rest)
   ]
 
-  below_all : (q : ℕ) (ps : List Pair) → ((k : ℕ) → names ps k ≡ true → IsOne k) → list_any (eqb q) (places_of ps) ≡ true → q < cell_count m
+  below_all : (q : ℕ) (ps : List Pair) → ((k : ℕ) → names ps k ≡ true → IsOne k) → list_any (eqb q) (places_of ps) ≡ true → q < cell_count schema m
   unfolding places_of
   below_all q [] ones e = absurd (false≢true e)
   below_all q (p ∷ ps) ones e = elim (or_cases (eqb q (place_in m p.at.number)) (list_any (eqb q) (places_of ps)) e) [
@@ -218,11 +161,11 @@ module _ (m : RegionCells) where
         distinct_places ps differ.1 rest,
       )
 
-  few_pairs : (ps : List Pair) → Differ ps → ((k : ℕ) → names ps k ≡ true → IsCell (image_of m) k) → length ps ≤ cell_count m
+  few_pairs : (ps : List Pair) → Differ ps → ((k : ℕ) → names ps k ≡ true → IsSome (class_of m k)) → length ps ≤ cell_count schema m
   unfolding places_of
   few_pairs ps differ cells =
       let ones = λ (k : ℕ) (named : names ps k ≡ true). is_one k (cells k named) in
-      let few = length-le_from_distinct_below (places_of ps) (cell_count m) (distinct_places ps differ ones) (λ q e. below_all q ps ones e) in
+      let few = length-le_from_distinct_below (places_of ps) (cell_count schema m) (distinct_places ps differ ones) (λ q e. below_all q ps ones e) in
       let same = length-map ps (λ (p : Pair). place_in m p.at.number) in
       omega (arith, few, same)
 
@@ -277,7 +220,7 @@ module _ (m : RegionCells) where
           let none : cond {A = ℕ} (not (names logged p.at.number)) 1 0 ≡ 0 = ap (λ b. cond {A = ℕ} b 1 0) e in
           omega (arith, sums, none, rest)
 
-  pub has_places : (hand : Hand) → AreDifferent (numbers_of hand.undo.pairs) → AreDifferent (numbers_of hand.plan.pairs) → ((n : ℕ) → WorksOn hand n → IsCell (image_of m) n) → cell_count m ≤ hand.undo.room → HasPlaces hand
+  pub has_places : (hand : Hand) → AreDifferent (numbers_of hand.undo.pairs) → AreDifferent (numbers_of hand.plan.pairs) → ((n : ℕ) → WorksOn hand n → IsSome (class_of m n)) → cell_count schema m ≤ hand.undo.room → HasPlaces hand
   has_places hand logged_once once cells enough =
       let few = few_pairs (filter (lacking hand.undo.pairs) hand.plan.pairs ++ hand.undo.pairs)
       (differ_both hand.undo.pairs hand.plan.pairs (differ_from hand.undo.pairs logged_once) (differ_from hand.plan.pairs once))

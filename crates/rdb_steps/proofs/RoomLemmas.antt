@@ -1,5 +1,5 @@
 -- The room that records have, and how far numbers were drawn, as one slot's record is another.
-use Rattle.std.proofs.Common.{◌≡◌, ◌≢◌, ◌<◌, ◌≤◌, ◌+◌, ◌*◌, ◌++◌, ◌∷◌, ◌||◌, ℕ, zero, suc, List, [], length, set, get_or, sum_by, Bool, true, false, not, cond, Option, Some, None, is_some, IsSome, is_none, option_map, slice_get, slice_index, position, option_and_then, append-nil, mul-one, refl, sym, ap, subst, ◌∙◌, arith, mul-add, length-append, inl, inr}
+use Rattle.std.proofs.Common.{◌≡◌, ◌≢◌, ◌<◌, ◌≤◌, ◌+◌, ◌*◌, ◌++◌, ◌∷◌, ◌||◌, ℕ, zero, suc, List, [], length, set, get_or, sum_by, Bool, true, false, not, cond, Option, Some, None, is_some, is_none, option_map, option_and_then, append-nil, mul-one, refl, sym, ap, subst, ◌∙◌, arith, mul-add, length-append, inl, inr}
 use Rattle.std.proofs.Math.Nat.{mul-le-mul_left}
 use Rattle.std.proofs.lemmas.Bool.{false≢true}
 use Rattle.std.proofs.lemmas.List.Quantifiers.{position-Some}
@@ -20,7 +20,7 @@ use Rattle.rdb_registry.specs.declared.seat.Seat.{Seat}
 use Rattle.rdb_registry.specs.declared.seat.Transaction.{Transaction}
 use Rattle.rdb_registry.specs.Hands.{undo_places}
 use Rattle.rdb_registry.specs.Registry.{Roll, spent_by}
-use Rattle.rdb_registry.specs.Seats.{Seats, EachSeat, IsNew, changed, may_write, marked, seat_in, seat_of, with_condemned}
+use Rattle.rdb_registry.specs.Seats.{Seats, EachSeat, IsNew, may_write, marked, seat_in, seat_of, with_condemned}
 use Rattle.rdb_registry.proofs.SlotLemmas.{seat_in_other}
 use Rattle.rdb_transactions.specs.declared.transactions.Transactions.{Transactions}
 use Rattle.rdb_transactions.specs.Claims.{is_unmarked}
@@ -33,17 +33,17 @@ use Rattle.rdb_steps.specs.Moves.{TellsAlone}
 use Rattle.rdb_steps.specs.Rooms.{HaveRooms, KeepRooms, TellsFew}
 use Rattle.rdb_steps.proofs.AlikeLemmas.{told}
 use Rattle.rdb_steps.proofs.MoveLemmas.{of_one, of_none}
-use Rattle.rdb_steps.specs.States.{IsFurnished, SpareFits, AreFewer, WorkFits, operations_of, planned_so_far, planned_by, planned_in, ever_planned}
+use Rattle.rdb_steps.specs.States.{IsFurnished, SpareFits, AreFewer, operations_of, planned_so_far, planned_by, planned_in, ever_planned}
 
 -- what stands in a slot is another record, or none; so many entries come; the spare undo record and what was spent stay
-record MovesSlot (before after : Transactions) (slot : ℕ) (was now : Option Seat) (more : List Entry) : Type 0 where
-  manager : after.manager ≡ before.manager
-  within : slot < length before.registry.seats
-  held : seat_in before.registry.seats slot ≡ was
-  seats : after.registry.seats ≡ set before.registry.seats slot now
-  spent : after.registry.spent ≡ before.registry.spent
-  entries : after.journal.entries ≡ before.journal.entries ++ more
-  spare : after.spare_undo ≡ before.spare_undo
+pub record MovesSlot (before after : Transactions) (slot : ℕ) (was now : Option Seat) (more : List Entry) : Type 0 where
+  pub manager : after.manager ≡ before.manager
+  pub within : slot < length before.registry.seats
+  pub held : seat_in before.registry.seats slot ≡ was
+  pub seats : after.registry.seats ≡ set before.registry.seats slot now
+  pub spent : after.registry.spent ≡ before.registry.spent
+  pub entries : after.journal.entries ≡ before.journal.entries ++ more
+  pub spare : after.spare_undo ≡ before.spare_undo
 
 within_of : (seats : Seats) (slot : ℕ) (s : Seat) → seat_in seats slot ≡ Some s → slot < length seats
 within_of [] slot s e = absurd (let no : None ≡ Some s = e in cc)
@@ -145,7 +145,7 @@ module _ (before after : Transactions) (slot : ℕ) (was now : Option Seat) (mor
   }
 
 -- a record is the single writer's as its transaction may write
-by_transaction : (m : Manager) (a b : Seat) → a.transaction ≡ b.transaction → is_single_writer m a ≡ is_single_writer m b
+pub by_transaction : (m : Manager) (a b : Seat) → a.transaction ≡ b.transaction → is_single_writer m a ≡ is_single_writer m b
 by_transaction manager.Mursiw a b same = ap (λ (o : Option Transaction). option_map_or (λ t. may_write t.kind) o false) same
 by_transaction manager.Mvcc a b same = refl
 
@@ -201,7 +201,7 @@ workless schema m cells seat now f plan undo same none done = record {
       omega (arith, stays, nothing, had);
 }
 
-moves_slot : (before after : Transactions) (c : ConnId) (seat : Seat) (change : Seat → Seat) (more : List Entry) → Moves before after c change more → KeepsSpare before after → seat_of before.registry.seats c ≡ Some seat →
+pub moves_slot : (before after : Transactions) (c : ConnId) (seat : Seat) (change : Seat → Seat) (more : List Entry) → Moves before after c change more → KeepsSpare before after → seat_of before.registry.seats c ≡ Some seat →
     MovesSlot before after c.slot (Some seat) (Some (change seat)) more
 moves_slot before after c seat change more moves spare held =
     let at = in_its_slot before.registry.seats c seat held in
@@ -217,7 +217,7 @@ moves_slot before after c seat change more moves spare held =
 
 -- of a record that is the single writer's exactly if it was
 module _ (before after : Transactions) (slot : ℕ) (seat now : Seat) (more : List Entry) (m : MovesSlot before after slot (Some seat) (Some now) more) (same : is_single_writer before.manager now ≡ is_single_writer before.manager seat) where
-  same_rooms : planned_by seat ≤ planned_by now + MAX_OPERATIONS * length more → (schema : Schema) (cells serials : ℕ) (ids : List ℕ) → HaveRooms schema cells serials ids before → IsFurnished schema before.manager cells now →
+  pub same_rooms : planned_by seat ≤ planned_by now + MAX_OPERATIONS * length more → (schema : Schema) (cells serials : ℕ) (ids : List ℕ) → HaveRooms schema cells serials ids before → IsFurnished schema before.manager cells now →
       HaveRooms schema cells serials ids after
   same_rooms few schema cells serials ids rooms furnished =
       rooms_stay before after slot (Some seat) (Some now) more m few schema cells serials ids rooms
@@ -362,7 +362,7 @@ back_rooms before after c seat cause moves spare held schema cells serials ids r
     schema cells serials ids rooms (back_furnished schema before.manager cells cause seat f)
 
 -- a story grows, or a watch changes
-told_counted : (a b c : Bool) (x y n : ℕ) → x ≤ y → cond a 0 (cond (b || c) n x) ≤ cond a 0 (cond (b || c) n y)
+pub told_counted : (a b c : Bool) (x y n : ℕ) → x ≤ y → cond a 0 (cond (b || c) n x) ≤ cond a 0 (cond (b || c) n y)
 told_counted true b c x y n grows = omega arith
 told_counted false true c x y n grows = omega arith
 told_counted false false true x y n grows = omega arith

@@ -35,7 +35,7 @@ use Rattle.rdb_steps.proofs.ListLemmas.{lists_given_up}
 use Rattle.rdb_steps.proofs.ReleaseLemmas.{with_seats, hand_stays}
 
 -- only the own writes are forgotten, and only where nothing is left to take back
-own_only : (h : Hand) → forgetting_own h ≡ record h { own = (forgetting_own h).own }
+pub own_only : (h : Hand) → forgetting_own h ≡ record h { own = (forgetting_own h).own }
 own_only h = go (length h.undo.pairs == 0)
   where
     go : (b : Bool) → cond b (record h { own = record { items = []; room = h.own.room + length h.own.items } }) h

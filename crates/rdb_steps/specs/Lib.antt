@@ -11,3 +11,4 @@ pub mod Moves
 pub mod Steps
 pub mod Rooms
 pub mod LaidPlans
+pub mod Written

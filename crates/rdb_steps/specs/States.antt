@@ -13,6 +13,7 @@ use Rattle.rdb_schema.specs.Schemas.{IsSchema}
 use Rattle.rdb_schema.specs.Types.{types_of}
 use Rattle.rdb_pages.specs.Pages.{page_cells}
 use Rattle.rdb_cells.specs.Records.{max_plan}
+use Rattle.rdb_cells.specs.References.{class_head_ref, heads_of_a_class}
 use Rattle.rdb_registry.specs.declared.hand.Work.{Work}
 use Rattle.rdb_registry.specs.declared.seat.Seat.{Seat}
 use Rattle.rdb_registry.specs.Hands.{undo_places}
@@ -46,9 +47,14 @@ Keeps s settled aimed = IsKept s.schema s.transactions.manager s.counters.serial
 abbrev pub IsKeptSomehow : {P : Type 0} → State P → Type 0
 IsKeptSomehow s = (settled : Versions) × (aimed : Versions) × Keeps s settled aimed
 
--- how many cells a region can have: those of all pages, and the heads
-abbrev pub cell_count : RegionCells → ℕ
-cell_count memory = page_cells * length memory.pages + sum_by length memory.heads
+-- how many cells a region can have: those of all pages, and a block of heads for each class
+abbrev pub cell_count : Schema → RegionCells → ℕ
+cell_count schema memory = page_cells * length memory.owners + heads_of_a_class * length schema.classes
+
+-- each class of the schema has its head, and no cell is of another class
+pub record HasClasses (schema : Schema) (memory : RegionCells) : Type 0 where
+  pub heads : (class : ℕ) → class < length schema.classes → class_of memory (class_head_ref class).number ≡ Some class
+  pub only : (n class : ℕ) → class_of memory n ≡ Some class → class < length schema.classes
 
 -- the row that an operation writes has these bytes
 abbrev pub HasBytes : Schema → Op → List ℕ → Type 0
@@ -115,10 +121,10 @@ pub record IsWhole {P : Type 0} (s : State P) : Type 0 where
   pub served : IsServed s.schema
   pub lawful : IsLawful s.schema
   pub store : s.store ≡ shapes_of s.schema
-  pub heads : length s.memory.heads ≡ length s.schema.classes
+  pub cells : HasClasses s.schema s.memory
   pub classes : s.transactions.registry.classes ≡ length s.schema.classes
   pub ids : length s.counters.ids.items ≡ length s.schema.classes
   pub sound : IsSound s.transactions
-  pub furnished : EachSeat (λ slot. IsFurnished s.schema s.transactions.manager (cell_count s.memory)) s.transactions.registry.seats
-  pub spare : SpareFits (cell_count s.memory) s.transactions
+  pub furnished : EachSeat (λ slot. IsFurnished s.schema s.transactions.manager (cell_count s.schema s.memory)) s.transactions.registry.seats
+  pub spare : SpareFits (cell_count s.schema s.memory) s.transactions
   pub fewer : AreFewer s.counters.serials s.counters.ids.items s.transactions

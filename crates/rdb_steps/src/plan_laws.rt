@@ -1,5 +1,5 @@
 //! The laws of plans that are made: each keeps what every step keeps, whatever versions are settled and aimed at. Their functions do nothing.
-ghost use Rattle.std.specs.Prelude.{◌≡◌, ◌<◌, ◌≤◌, ◌∷◌, ◌++◌, ℕ, List, length, slice_index, Some, None, true};
+ghost use Rattle.std.specs.Prelude.{◌≡◌, ◌<◌, ◌≤◌, ◌∷◌, ◌++◌, ℕ, List, length, slice_index, Some, None, IsSome, true};
 ghost use Rattle.rdb_base.specs.declared.identity.ConnId.{ConnId};
 ghost use Rattle.rdb_base.specs.declared.identity.Manager.{Manager};
 ghost use Rattle.rdb_base.specs.declared.identity.Stamp.TheVariants as stamp;
@@ -7,7 +7,6 @@ ghost use Rattle.rdb_base.specs.declared.operation.Op.{Op};
 ghost use Rattle.rdb_base.specs.Operations.{class_of as class_named};
 ghost use Rattle.rdb_pages.specs.declared.cell.CellRef.{CellRef};
 ghost use Rattle.rdb_schema.specs.declared.schema.Schema.{Schema};
-ghost use Rattle.rdb_cells.specs.Images.{IsCell};
 ghost use Rattle.rdb_cells.specs.Places.{AreDifferent};
 ghost use Rattle.rdb_cells.specs.Records.{Record, numbers_of};
 ghost use Rattle.rdb_registry.specs.declared.hand.Hand.{Hand};
@@ -17,7 +16,7 @@ ghost use Rattle.rdb_registry.specs.declared.seat.Seat.{Seat};
 ghost use Rattle.rdb_registry.specs.declared.seat.Transaction.{Transaction};
 ghost use Rattle.rdb_registry.specs.Seats.{NoOtherHolds, seat_of, with_latch, add_latch};
 ghost use Rattle.rdb_sight.specs.Versions.{Version, Versions, chain_in, with_chain_in};
-ghost use Rattle.rdb_space.specs.Memory.{RegionCells, image_of};
+ghost use Rattle.rdb_space.specs.Memory.{RegionCells, class_of};
 ghost use Rattle.rdb_writes.specs.Changes.{ChangesLatches};
 ghost use Rattle.rdb_writes.specs.Grounds.{Ground, HaveOneHolder, HasPlaces, WorksOn};
 ghost use Rattle.rdb_writes.specs.Steps.{spans_one_plan};
@@ -26,7 +25,7 @@ ghost use Rattle.rdb_steps.specs.Kept.{IsLawful, tx_of};
 ghost use Rattle.rdb_steps.specs.LaidPlans.{MakesLaid, IsAtWork, IsAtDrop};
 ghost use Rattle.rdb_steps.specs.Making.{with_plan, with_put, without_own};
 ghost use Rattle.rdb_steps.specs.Planned.{all_but, object_named};
-ghost use Rattle.rdb_steps.specs.States.{cell_count};
+ghost use Rattle.rdb_steps.specs.States.{HasClasses, cell_count};
 
 /// The own plan of an operation in work is made: a version with a serial that none had comes first in its object's chain, and the one that
 /// the transaction had there goes. All is kept, and that version is aimed at.
@@ -70,6 +69,7 @@ pub fn an_own_drop_keeps_all()
 
 /// An undo record with a place for each cell that a region can have has a place for each cell of a plan that it hasn't logged.
 pub fn a_place_for_each_cell_is_enough()
-    ensures { (memory : RegionCells) (hand : Hand) → AreDifferent (numbers_of hand.undo.pairs) → AreDifferent (numbers_of hand.plan.pairs)
-        → ((n : ℕ) → WorksOn hand n → IsCell (image_of memory) n) → cell_count memory ≤ hand.undo.room → HasPlaces hand }
+    ensures { (schema : Schema) (memory : RegionCells) (hand : Hand) → HasClasses schema memory
+        → AreDifferent (numbers_of hand.undo.pairs) → AreDifferent (numbers_of hand.plan.pairs)
+        → ((n : ℕ) → WorksOn hand n → IsSome (class_of memory n)) → cell_count schema memory ≤ hand.undo.room → HasPlaces hand }
 {}

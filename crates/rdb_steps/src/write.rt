@@ -10,6 +10,7 @@ ghost use Rattle.rdb_steps.specs.Kept.{is_dropping};
 ghost use Rattle.rdb_steps.specs.Lists.{the_aimed};
 ghost use Rattle.rdb_steps.specs.States.{IsKeptSomehow, IsWhole};
 ghost use Rattle.rdb_steps.specs.Steps.{KeepsAs, OnlyRecord, WritesOne, EndsWork, ForgetsFirst, seat_at, settled_by_writing, reply_next, version_at};
+ghost use Rattle.rdb_steps.specs.Written.{ComesNearer, KeepsCounts, WrittenDrop, WrittenWork};
 
 use crate::finish::finish;
 use crate::state::State;
@@ -33,6 +34,10 @@ impl<P: Pages> State<P> {
         ensures reply { IsSomeAnd (seat_at self.old c) (λ seat. result ≡ reply_next seat.hand) }
         ensures cell { WritesOne self.old.memory self.new.memory }
         ensures record { OnlyRecord self.old self.new c }
+        ensures becomes { WrittenWork self.old self.new c result }
+        ensures counts { KeepsCounts self.old self.new }
+        ensures nearer { ComesNearer self.old self.new c }
+        ensures whole { IsWhole self.new }
     {
         self.transactions.registry.sound();
         let is_last = write_next(
@@ -61,6 +66,9 @@ impl<P: Pages> State<P> {
         ensures kept { KeepsAs self.old self.new (settled_by_writing self.old.transactions.manager (seat_at self.old c)) the_aimed }
         ensures cell { WritesOne self.old.memory self.new.memory }
         ensures record { OnlyRecord self.old self.new c }
+        ensures becomes { WrittenDrop self.old self.new c }
+        ensures counts { KeepsCounts self.old self.new }
+        ensures whole { IsWhole self.new }
     {
         self.transactions.registry.sound();
         let is_last = write_next(

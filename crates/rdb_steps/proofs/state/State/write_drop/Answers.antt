@@ -1,6 +1,8 @@
 use Rattle.std.proofs.Common.{refl, ◌≡◌, []}
 use Rattle.rdb_registry.specs.declared.hand.Hand.{Hand}
 use Rattle.rdb_steps.proofs.StateWrites.{only_on, only_forgot, drop_goes_on, drop_ends, has_first, room_mid, writes_one}
+use Rattle.rdb_steps.proofs.WrittenLemmas.{drop_becomes, drop_forgets}
+use Rattle.rdb_steps.proofs.WholeSteps.{whole_forgot, whole_on}
 use Rattle.rdb_steps.proofs.state.State.write_drop.Goals as goal
 
 pub forget_first-requires : goal.forget_first-requires
@@ -54,3 +56,33 @@ returns-else-is_last-clause-record g c =
           c.args.c c.write_next-is_last.result c.requires.whole.lawful c.requires.whole.classes c.sound.ensures c.write_next-is_last.ensures.written c.write_next-is_last.ensures.works c.requires.kept.0 c.requires.kept.1 c.requires.kept.2 c.write_next-is_last.ensures.roll;
       rest = refl;
     }
+
+pub returns-then-is_last-clause-becomes : goal.returns-then-is_last-clause-becomes
+returns-then-is_last-clause-becomes g c =
+    let s = c.args.self.now in
+    drop_forgets s.transactions.manager s.memory c.write_next-is_last.new.cells s.transactions.registry c.write_next-is_last.new.registry
+    c.args.c c.write_next-is_last.result c.write_next-is_last.ensures.written c.if-is_last.true c.forget_first.new.registry c.forget_first.ensures
+
+pub returns-else-is_last-clause-becomes : goal.returns-else-is_last-clause-becomes
+returns-else-is_last-clause-becomes g c =
+    let s = c.args.self.now in
+    drop_becomes s.transactions.manager s.memory c.write_next-is_last.new.cells s.transactions.registry c.write_next-is_last.new.registry
+    c.args.c c.write_next-is_last.result c.write_next-is_last.ensures.written c.if-is_last.false
+
+pub returns-then-is_last-clause-counts : goal.returns-then-is_last-clause-counts
+returns-then-is_last-clause-counts g c = record { counters = refl; journal = refl; claims = refl; spare = refl; manager = refl; schema = refl; store = refl }
+
+pub returns-else-is_last-clause-counts : goal.returns-else-is_last-clause-counts
+returns-else-is_last-clause-counts g c = record { counters = refl; journal = refl; claims = refl; spare = refl; manager = refl; schema = refl; store = refl }
+
+pub returns-then-is_last-clause-whole : goal.returns-then-is_last-clause-whole
+returns-then-is_last-clause-whole g c =
+    let s = c.args.self.now in
+    whole_forgot s c.write_next-is_last.new.cells c.write_next-is_last.new.registry c.args.c c.write_next-is_last.result c.requires.whole c.write_next-is_last.ensures.written
+    c.write_next-is_last.ensures.roll c.write_next-is_last.ensures.owners c.requires.dropping c.forget_first.new.registry c.forget_first.ensures
+
+pub returns-else-is_last-clause-whole : goal.returns-else-is_last-clause-whole
+returns-else-is_last-clause-whole g c =
+    let s = c.args.self.now in
+    whole_on s c.write_next-is_last.new.cells c.write_next-is_last.new.registry c.args.c c.write_next-is_last.result c.requires.whole c.write_next-is_last.ensures.written
+    c.write_next-is_last.ensures.roll c.write_next-is_last.ensures.owners
