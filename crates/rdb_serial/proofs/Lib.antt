@@ -12,3 +12,5 @@ pub mod EndingMoves
 pub mod AimLemmas
 pub mod PlanMoves
 pub mod GivingMoves
+pub mod SettlingMoves
+pub mod StampMoves

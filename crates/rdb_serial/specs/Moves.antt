@@ -19,8 +19,8 @@ use Rattle.rdb_model.specs.Answer.{answer}
 use Rattle.rdb_model.specs.Fits.{Fits}
 use Rattle.rdb_model.specs.Journal.{commits}
 use Rattle.rdb_model.specs.Touch.{written_by}
-use Rattle.rdb_shown.specs.Changes.{DropsOwn, DropsGarbage, HasNone}
-use Rattle.rdb_serial.specs.Progress.{Progress, tx_of, holds, is_live, so_far, story_with}
+use Rattle.rdb_shown.specs.Changes.{DropsOwn, DropsGarbage, Stamps, HasNone}
+use Rattle.rdb_serial.specs.Progress.{Progress, tx_of, holds, is_live, so_far, story_with, marks_of}
 use Rattle.rdb_serial.specs.Histories.{History, scene_of, shown_to, TakesOver, AreSameIn, IsFloor, AreHeldOnce}
 use Rattle.rdb_serial.specs.Serial.{IsCauseOf, IsUnrefused}
 
@@ -148,6 +148,14 @@ pub record PlansGarbage (before after : History) (slot class id floor : ℕ) : T
   pub least : IsFloor before.journal before.course floor
   pub drops : DropsGarbage (Some floor) before.aimed after.aimed class id
 
+-- The last cell of a plan is written where many may write: what its connection aims at in its classes is settled.
+pub record Settles (before after : History) (slot : ℕ) : Type 0 where
+  pub was : Progress
+  pub turns : Turns before after slot (Some was) (Some (record was { plans = false }))
+  pub journal : KeepsJournal before after
+  pub aimed : after.aimed ≡ before.aimed
+  pub settled : TakesOver was.latches before.settled before.aimed after.settled
+
 -- The operation in work is done, its own plan being written: it stands in the story with its reply. Where many may write, its versions are
 -- settled, and its latch is given up.
 pub record Finishes (manager : Manager) (before after : History) (slot : ℕ) (version : CellRef) : Type 0 where
@@ -237,6 +245,18 @@ pub record EndsRolledBack (before after : History) (slot : ℕ) : Type 0 where
   pub cause : was.cause ≡ Some why
   pub rest : IsAtRest was
   pub enters : Enters before after slot (Some was) (Some (ended latches was)) (entry.Abort (story_with was transaction was.done) why)
+
+-- A version of a marked transaction is stamped, among the settled ones and among those aimed at.
+pub record StampsVersion (manager : Manager) (before after : History) (slot class id : ℕ) : Type 0 where
+  pub was : Progress
+  pub transaction : Transaction
+  pub there : before.course slot ≡ Some was
+  pub open_one : was.transaction ≡ Some transaction
+  pub course : (other : ℕ) → after.course other ≡ before.course other
+  pub journal : KeepsJournal before after
+  pub settled : Stamps (marks_of before.course) before.settled after.settled (tx_of was transaction) class id
+  pub aimed : Stamps (marks_of before.course) before.aimed after.aimed (tx_of was transaction) class id
+  pub same : manager ≡ managers.Mvcc → AreSameIn class after.aimed after.settled
 
 -- no version is of a transaction any more
 pub record IsUnused (h : History) (p : Progress) (t : Transaction) : Type 0 where

@@ -1,11 +1,13 @@
-//! Plans of drops are made: of a garbage version for an operation in work, of a version of a transaction that is given up.
+//! Plans of drops are made: of a garbage version for an operation in work, of a version of a transaction that is given up; and what
+//! a plan aims at is settled.
 
 ghost use Rattle.std.specs.Prelude.{ℕ};
 ghost use Rattle.rdb_base.specs.declared.identity.Manager.{Manager};
+ghost use Rattle.rdb_base.specs.declared.identity.Manager.TheVariants as managers;
 ghost use Rattle.rdb_schema.specs.declared.schema.Schema.{Schema};
 ghost use Rattle.rdb_serial.specs.Histories.{History, AreHeldOnce};
 ghost use Rattle.rdb_serial.specs.Serial.{IsSerial};
-ghost use Rattle.rdb_serial.specs.Moves.{PlansGarbage, PlansDrop};
+ghost use Rattle.rdb_serial.specs.Moves.{PlansGarbage, PlansDrop, Settles};
 
 /// The drop of a garbage version is planned for an operation in work.
 pub fn a_garbage_plan_keeps_the_history()
@@ -18,4 +20,11 @@ pub fn a_garbage_plan_keeps_the_history()
 pub fn a_drop_plan_keeps_the_history()
     ensures { (schema : Schema) (manager : Manager) (before after : History) (slot class id : ℕ) →
         IsSerial schema manager before → AreHeldOnce after.course → PlansDrop before after slot class id → IsSerial schema manager after }
+{}
+
+/// The last cell of a plan is written, where many may write.
+pub fn a_written_plan_keeps_the_history()
+    ensures { (schema : Schema) (before after : History) (slot : ℕ) →
+        IsSerial schema managers.Mvcc before → AreHeldOnce before.course → Settles before after slot →
+        IsSerial schema managers.Mvcc after }
 {}
