@@ -41,15 +41,15 @@ no_value o none = subst IsPlainValue (sym none) tt
 
 -- no value that is right for a command begins with a hyphen
 plain_values : (command : Command) (given : Given) → Asks command given → IsPlainValue given.manager_value × IsPlainValue given.pages_value
-plain_values (replay settings schema schedule clients) given (has, _) = (plain_manager given.manager_value settings.manager has.0, plain_pages given.pages_value settings.pages has.1)
-plain_values (run settings schema clients) given (has, _) = (plain_manager given.manager_value settings.manager has.0, plain_pages given.pages_value settings.pages has.1)
-plain_values (audit schema report) given (none, _) = (no_value given.manager_value none.0, no_value given.pages_value none.1)
-plain_values (check schema) given (none, _) = (no_value given.manager_value none.0, no_value given.pages_value none.1)
-plain_values (job seed with_threads) given (none, _) = (no_value given.manager_value none.0, no_value given.pages_value none.1)
+plain_values (replay settings schema schedule clients) given asks = (plain_manager given.manager_value settings.manager asks.0.0, plain_pages given.pages_value settings.pages asks.0.1)
+plain_values (run settings schema clients) given asks = (plain_manager given.manager_value settings.manager asks.0.0, plain_pages given.pages_value settings.pages asks.0.1)
+plain_values (audit schema report) given asks = (no_value given.manager_value asks.0.0, no_value given.pages_value asks.0.1)
+plain_values (check schema) given asks = (no_value given.manager_value asks.0.0, no_value given.pages_value asks.0.1)
+plain_values (job seed with_threads) given asks = (no_value given.manager_value asks.0.0, no_value given.pages_value asks.0.1)
 
 -- what stands behind the command's word gives what the command line gives
 behind_gives : (words behind : List Word) (first : Word) (command : Command) (line : IsCommandLine words command) → words ≡ first ∷ behind → Gives behind line.given
-behind_gives words behind first command line e = subst (λ ws. Gives ws line.given) (same_tail (sym line.begins ∙ e)) line.gives
+behind_gives words behind first command line e = subst (λ (ws : List Word). Gives ws line.given) (same_tail (sym line.begins ∙ e)) line.gives
 
 -- the words behind the command's word can be read
 pub readable : (words behind : List Word) (first : Word) (command : Command) → IsCommandLine words command → words ≡ first ∷ behind → IsReadable behind
@@ -62,17 +62,23 @@ readable words behind first command line e = record {
 }
 
 -- what is read of a command line asks for its command
+pub record AsksAgain (behind : List Word) (first : Word) (command : Command) (read : Given) : Type 0 where
+  pub gives : Gives behind read
+  pub asks : AsksBy first read command
+
 pub asks_again : (words behind : List Word) (first : Word) (command : Command) (read : Given) → IsCommandLine words command → words ≡ first ∷ behind
     → ((given : Given) → Gives behind given → IsPlainValue given.manager_value → IsPlainValue given.pages_value → read ≡ given)
-    → Gives behind read × AsksBy first read command
+    → AsksAgain behind first command read
 asks_again words behind first command read line e is =
-    let gives = behind_gives words behind first command line e in
-    let plain = plain_values command line.given line.asks in
-    let same : read ≡ line.given = is line.given gives plain.0 plain.1 in (
-      subst (λ (g : Given). Gives behind g) (sym same) gives,
-      same_head (sym e ∙ line.begins),
-      subst (λ (g : Given). Asks command g) (sym same) line.asks,
-    )
+    let gives : Gives behind line.given = behind_gives words behind first command line e in
+    let plain : IsPlainValue line.given.manager_value × IsPlainValue line.given.pages_value = plain_values command line.given line.asks in
+    let same : read ≡ line.given = is line.given gives plain.0 plain.1 in
+    let P : Given → Type 0 = λ g. Gives behind g in
+    let Q : Given → Type 0 = λ g. Asks command g in
+    record {
+      gives = subst P (sym same) gives;
+      asks = (same_head (sym e ∙ line.begins), subst Q (sym same) line.asks);
+    }
 
 -- words that begin so, with what they give, are a command line
 pub line_of : (words behind : List Word) (first : Word) (given : Given) (command : Command) → words ≡ first ∷ behind → Gives behind given → AsksBy first given command → IsCommandLine words command

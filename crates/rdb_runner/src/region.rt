@@ -1,6 +1,6 @@
 //! The top call: the words of a command line in, the number of a status out. It touches the caller's files and sink alone.
 
-ghost use Rattle.std.specs.Prelude.{◌≡◌, ◌≢◌, ◌≤◌, [], ◌∷◌, map, length, string_bytes, IfOk, IfSome, IfNone};
+ghost use Rattle.std.specs.Prelude.{◌≡◌, ◌≢◌, ◌≤◌, ◌==◌, [], ◌∷◌, map, length, string_bytes, IfOk, IfSome, IfNone};
 ghost use Rattle.std.specs.Bool.{OnTrue, OnFalse};
 ghost use Rattle.rdb_words.specs.Grammar.{texts};
 ghost use Rattle.rdb_runner.specs.Command.{WordsEnd, CommandEnds, IsBuilt, task_of, unbuilt};
@@ -116,13 +116,20 @@ fn end_command<F: Files, K: Sink>(
     }
 }
 
+/// Whether there is exactly one client.
+fn is_single(clients: &[&str]) -> bool
+    ensures { result ≡ (length clients.now == 1) }
+{
+    clients.len() == 1
+}
+
 /// Whether a command is built yet.
 fn is_built(line: &CommandLine<'_>) -> bool
     ensures yes { OnTrue result (IsBuilt (task_of (command_of line.now))) }
     ensures no { OnFalse result (task_of (command_of line.now) ≡ unbuilt) }
 {
     match line {
-        CommandLine::Replay { clients, .. } => clients.len() == 1,
+        CommandLine::Replay { clients, .. } => is_single(clients.as_slice()),
         CommandLine::Audit { .. } | CommandLine::Check { .. } => true,
         CommandLine::Run { .. } | CommandLine::Job { .. } => false,
     }
