@@ -19,12 +19,12 @@ ghost use Rattle.rdb_report_lines.specs.Printed.{IsNarrow, IsPrintableStep, IsPr
 ghost use Rattle.rdb_report_lines.specs.Heads.{IsHead};
 ghost use Rattle.rdb_audit.specs.Grammar.{text_of, MayStand, is_last, open_kind};
 
-use rdb_report_lines::client_reader::{client, note};
-use rdb_report_lines::head_reader::head;
 use crate::progress::{Progress, ReportLine, Section};
-use rdb_report_lines::step_reader::step;
 use rdb_base::list::NoMemory;
 use rdb_literals::front::after;
+use rdb_report_lines::client_reader::{client, note};
+use rdb_report_lines::head_reader::head;
+use rdb_report_lines::step_reader::step;
 use rdb_schema::schema::Schema;
 use std::alloc::Global;
 
