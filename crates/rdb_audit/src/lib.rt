@@ -1,7 +1,6 @@
 //! Reads whole reports back, line by line, and judges their journals. It reads and writes no file.
 #![tactic(auto)]
 
-pub mod laws;
 mod line_reader;
 mod progress;
 pub mod reader;
