@@ -222,9 +222,9 @@ module _ (keys : Meaning) (said : Sayings) (w : Work) (node : Entry) (level : �
           let own = count_cons n child.at.number (cells_below k child.below) in
           reads_same mid after (child.at.number ∷ cells_below (suc k) (front ++ back)) [] 2 mended.account n
           (λ other.
-              let one = among_count (child.at.number ∷ cells_below (suc k) (front ++ back)) n other in
-              let first = count_cons n child.at.number (cells_below (suc k) (front ++ back)) in
-              absurd (omega arith))
+          let one = among_count (child.at.number ∷ cells_below (suc k) (front ++ back)) n other in
+          let first = count_cons n child.at.number (cells_below (suc k) (front ++ back)) in
+          absurd (omega arith))
           (λ none. none)
           ∙ shrunk.zero n within
 

@@ -148,7 +148,7 @@ fits_begun manager.Mursiw kind.ReadWrite schema cells classes begun snapshot bef
     | inr other ↦
         let open_one = writer_of s (sym (ap (λ (k : Manager). is_single_writer k s) is_now) ∙ writes) in
         let alone = may refl i s open_one.0 other
-            (sym (others before after slot (Some seat) (Some (begun_seat manager.Mursiw before.spare_undo classes kind.ReadWrite begun snapshot seat)) [] m i other) ∙ held) open_one.1 in
+        (sym (others before after slot (Some seat) (Some (begun_seat manager.Mursiw before.spare_undo classes kind.ReadWrite begun snapshot seat)) [] m i other) ∙ held) open_one.1 in
         absurd (let no : kind.ReadWrite ≡ kind.ReadOnly = alone.0 in cc)
   ];
 }
