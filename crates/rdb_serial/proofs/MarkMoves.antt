@@ -333,7 +333,7 @@ module _ (schema : Schema) (manager : Manager) (before after : History) (slot : 
           has_ended_since_leave (longer_journal before move.was move.transaction) (slot, number) ≡ true → number ≤ move.was.begun
       go number true f has =
           let same : move.transaction.number ≡ number = ends_own (commit_entry before move.was move.transaction) move.was.conn.slot move.transaction.number number refl
-              (ap (λ (k : ℕ). ends (k, number) (commit_entry before move.was move.transaction)) is_there.place ∙ f) in
+          (ap (λ (k : ℕ). ends (k, number) (commit_entry before move.was move.transaction)) is_there.place ∙ f) in
           let mine = was_open.number in
           omega (arith, same, mine)
       go number false f has = is_there.ended number (ended_before before.journal (commit_entry before move.was move.transaction) (slot, number) f has)

@@ -85,12 +85,16 @@ module _ (schema : Schema) (before after : History) (slot : ℕ) (serial : IsSer
           let one : planned.progress ≡ move.was = (cc) in
           let there : class < length before.settled = change_there before.journal before.course (tx_of planned.progress planned.transaction) before.settled (with_class before.settled class before.aimed) class planned.changes in
           let there_now : class < length versions = omega (arith, there, many) in
-          inr (planned.transaction, sym (ap (λ (r : Progress). r.transaction) one) ∙ planned.open_one, planned.unmarked,
+          inr (
+            planned.transaction,
+            sym (ap (λ (r : Progress). r.transaction) one) ∙ planned.open_one,
+            planned.unmarked,
             subst (λ (r : Progress). IsOneChange before.journal before.course (tx_of r planned.transaction) versions (with_class versions class after.settled) class) one
-            (moved_change before.settled (with_class before.settled class before.aimed) versions (with_class versions class after.settled) class there_now (length-set versions class (objects_in after.settled class)) same
-            (class_here versions class after.settled there_now ∙ move.settled.latched class held ∙ sym (class_here before.settled class before.aimed there))
-            (λ other differs. class_elsewhere versions class after.settled other differs)
-            before.journal before.journal before.course before.course (tx_of planned.progress planned.transaction) (λ floor is_floor. is_floor) planned.changes))
+                (moved_change before.settled (with_class before.settled class before.aimed) versions (with_class versions class after.settled) class there_now (length-set versions class (objects_in after.settled class)) same
+                (class_here versions class after.settled there_now ∙ move.settled.latched class held ∙ sym (class_here before.settled class before.aimed there))
+                (λ other differs. class_elsewhere versions class after.settled other differs)
+                before.journal before.journal before.course before.course (tx_of planned.progress planned.transaction) (λ floor is_floor. is_floor) planned.changes),
+          )
 
       go : (b : Bool) → holds move.was.latches class ≡ b → BecomesIn before.journal before.course move.was versions after.settled class
       go true held = at held (serial.agrees refl class)
@@ -211,7 +215,7 @@ module _ (schema : Schema) (before after : History) (slot : ℕ) (serial : IsSer
   scene_now : scene_of after ≡ record (scene_of before) { settled = after.settled }
   scene_now =
       let marks = marks_same before.course after.course slot move.turns.others
-          (λ x. ap (mark_in x) move.turns.is_there ∙ mark_by x (record move.was { plans = false }) ∙ sym (ap (mark_in x) move.turns.was_there ∙ mark_by x move.was)) in
+      (λ x. ap (mark_in x) move.turns.is_there ∙ mark_by x (record move.was { plans = false }) ∙ sym (ap (mark_in x) move.turns.was_there ∙ mark_by x move.was)) in
       λ i. record { journal = move.journal.journal i; marks = marks i; drawn = move.journal.drawn i; settled = after.settled; aimed = move.aimed i }
 
   is_scene : IsScene schema (record (scene_of before) { settled = after.settled })
