@@ -77,7 +77,7 @@ no_plan was now class none p t is open_one unmarked latched plans = let same : w
 not_open : (latches : ℕ) (was : Progress) (q : Progress) (t : Transaction) → Some (ended latches was) ≡ Some q → q.transaction ≡ Some t → ⊥
 not_open latches was q t is open_one = let same : ended latches was ≡ q = (cc) in let none : None ≡ Some t = ap (λ (r : Progress). r.transaction) same ∙ open_one in (cc)
 
-story_of_none : (p : Progress) → p.work ≡ None → so_far p ≡ p.done
+pub story_of_none : (p : Progress) → p.work ≡ None → so_far p ≡ p.done
 story_of_none p none = ap (λ (w : Option Work). p.done ++ done_by_plan w) none ∙ append-nil p.done
 
 -- a connection whose transaction an entry ended

@@ -257,7 +257,7 @@ lays_down schema manager before after slot serial once move =
       ended = is_now.ended;
       anew = story (λ (d : List (Op × Reply)). MakesAnew (made_before before.journal) d) is_now.anew (λ anew. subst (MakesAnew (made_before before.journal)) (sym (append-nil move.was.done)) (anew_front (made_before before.journal) move.was.done (done_by_plan move.was.work) anew));
       drawn = λ class id made. is_now.drawn class id (less (class, id) made);
-      open_one = λ u e. dead_open schema manager s_now move.was u move.work move.latches false move.given_up (is_now.open_one u e);
+      open_one = λ u e. dead_open schema manager s_now move.was u move.work move.latches move.plans move.given_up (is_now.open_one u e);
     })
     (apart_turned before.course after.course slot move.turns.others (same_made before.course after.course slot move.was now move.turns.was_there move.turns.is_there less) serial.apart)
     (agrees_turned manager before after slot (Some move.was) (Some now) move.turns
@@ -265,7 +265,7 @@ lays_down schema manager before after slot serial once move =
     (ap (λ (vs : Versions). length vs) move.settled) (λ many class. agree class (holds move.was.latches class) refl) serial.agrees)
   where
     now : Progress
-    now = record move.was { work = move.work; plans = false; latches = move.latches }
+    now = record move.was { work = move.work; plans = move.plans; latches = move.latches }
 
     s_now : Scene
     s_now = record (scene_of before) { drawn = after.drawn; aimed = after.aimed }

@@ -14,3 +14,8 @@ pub mod PlanMoves
 pub mod GivingMoves
 pub mod SettlingMoves
 pub mod StampMoves
+pub mod MarkMoves
+pub mod EmptyMoves
+pub mod PutLemmas
+pub mod ObjectLemmas
+pub mod OwnPlans

@@ -1,5 +1,5 @@
 -- The last cell of a plan is written where many may write: what its connection aims at is settled, and others see what they saw.
-use Rattle.std.proofs.Common.{◌≡◌, ◌≢◌, ◌⊎◌, inl, inr, ℕ, ◌<◌, ◌≤◌, Bool, true, false, List, [], ◌∷◌, ◌++◌, length, slice_index, Option, Some, None, refl, sym, ap, subst, ◌∙◌, arith, append-nil, length-set}
+use Rattle.std.proofs.Common.{◌≡◌, ◌≢◌, ◌⊎◌, inl, inr, ℕ, ◌<◌, ◌≤◌, Bool, true, false, List, [], length, Option, Some, None, refl, sym, ap, subst, ◌∙◌, arith, append-nil, length-set}
 use Rattle.rdb_base.specs.declared.identity.Manager.{Manager}
 use Rattle.rdb_base.specs.declared.identity.Manager.TheVariants as managers
 use Rattle.rdb_base.specs.declared.identity.TxId.{TxId}
@@ -8,20 +8,20 @@ use Rattle.rdb_base.specs.declared.operation.Reply.{Reply}
 use Rattle.rdb_base.specs.declared.journal.Entry.{Entry}
 use Rattle.rdb_schema.specs.declared.schema.Schema.{Schema}
 use Rattle.rdb_registry.specs.declared.seat.Transaction.{Transaction}
-use Rattle.rdb_sight.specs.Versions.{Versions, Marks, objects_in, rows_shown, shown}
-use Rattle.rdb_model.specs.Journal.{commits, made_in, was_made}
+use Rattle.rdb_sight.specs.Versions.{Versions, objects_in, rows_shown, shown}
+use Rattle.rdb_model.specs.Journal.{commits}
 use Rattle.rdb_shown.specs.Kept.{AreVersions, IsWork}
 use Rattle.rdb_serial.specs.Progress.{Progress, Course, tx_of, holds, so_far, mark_in, marks_of}
-use Rattle.rdb_serial.specs.Histories.{History, Scene, scene_of, view, view_in, AreSameIn, with_class, IsFloor, IsOneChange, IsPlanned, AreHeldOnce}
+use Rattle.rdb_serial.specs.Histories.{History, Scene, scene_of, view, AreSameIn, with_class, IsFloor, IsOneChange, IsPlanned, AreHeldOnce}
 use Rattle.rdb_serial.specs.Serial.{IsScene, IsGoingOn, IsOpen, IsConnection, IsSerial}
-use Rattle.rdb_serial.specs.Moves.{Turns, Settles}
+use Rattle.rdb_serial.specs.Moves.{Settles, WritesOut}
 use Rattle.rdb_serial.proofs.ViewLemmas.{length_view, view_latched, view_free, view_either, views_are_one, class_here, class_elsewhere}
 use Rattle.rdb_serial.proofs.ClassLemmas.{shown_by_class, class_shown, WorkIn, work_in, work_by_class, kept_either}
 use Rattle.rdb_serial.proofs.ProgressLemmas.{mark_by, marks_same, apart_txs}
 use Rattle.rdb_serial.proofs.ChangeLemmas.{change_shown, change_work, change_there, moved_change}
 use Rattle.rdb_serial.proofs.CarryLemmas.{Carries, carried}
 use Rattle.rdb_serial.proofs.TurnLemmas.{apart_turned, turned}
-use Rattle.rdb_serial.proofs.StillLemmas.{StaysIn, floors_stay, plan_stays, agrees_turned, connection_of}
+use Rattle.rdb_serial.proofs.StillLemmas.{StaysIn, floors_stay, plan_stays, agrees_turned, turned_still, connection_of}
 use Rattle.rdb_serial.proofs.StoryLemmas.{never}
 use Rattle.rdb_serial.proofs.StoryMoves.{as_many, same_commits}
 use Rattle.rdb_serial.proofs.PlanMoves.{mark_here}
@@ -56,6 +56,14 @@ plans_unsaid schema manager s slot p plans is = record {
       goes_on = λ unmarked live. going t (was_open.goes_on unmarked live);
       rolls_back = was_open.rolls_back;
     }
+
+pub writes_out : (schema : Schema) (manager : Manager) (before after : History) (slot : ℕ) → IsSerial schema manager before → WritesOut manager before after slot → IsSerial schema manager after
+writes_out schema manager before after slot serial move =
+    turned_still schema manager before after slot (Some move.was) (record move.was { plans = false }) move.turns serial (λ x. mark_by x (record move.was { plans = false }) ∙ sym (mark_by x move.was))
+    (floors_stay before after slot move.was (record move.was { plans = false }) move.turns.turns (same_commits before after move.turns.journal.journal) (λ t open_one. inr (t, open_one, refl)))
+    (λ many class. plan_stays move.was (record move.was { plans = false }) class (λ t open_one unmarked held plans. absurd (let both : managers.Mvcc ≡ managers.Mursiw = sym many ∙ move.single in (cc))))
+    (λ object made. made)
+    (plans_unsaid schema manager (scene_of before) slot move.was false (connection_of schema manager before slot move.was serial move.turns.turns.was_there))
 
 -- what becomes of a class of versions: it stays, or a connection's one change there is made
 abbrev BecomesIn : List Entry → Course → Progress → Versions → Versions → ℕ → Type 0

@@ -1,5 +1,5 @@
 -- A version of a marked transaction is stamped: nobody is shown anything else.
-use Rattle.std.proofs.Common.{◌≡◌, ◌≢◌, ◌⊎◌, inl, inr, ℕ, ◌<◌, ◌≤◌, Bool, true, false, List, [], ◌∷◌, ◌++◌, length, Option, Some, None, nat_eq, refl, sym, ap, subst, ◌∙◌, arith, append-nil, length-set}
+use Rattle.std.proofs.Common.{◌≡◌, ◌≢◌, ◌⊎◌, inl, inr, ℕ, ◌<◌, Bool, true, false, List, [], ◌∷◌, ◌++◌, length, Option, Some, None, nat_eq, refl, sym, ap, subst, ◌∙◌, arith, append-nil, length-set}
 use Rattle.std.specs.List.{AllPairs}
 use Rattle.std.proofs.lemmas.Bool.Decides.{nat_tests}
 use Rattle.rdb_base.specs.declared.identity.Manager.{Manager}
@@ -9,7 +9,6 @@ use Rattle.rdb_base.specs.declared.operation.Op.{Op}
 use Rattle.rdb_base.specs.declared.operation.Reply.{Reply}
 use Rattle.rdb_base.specs.declared.journal.Entry.{Entry}
 use Rattle.rdb_schema.specs.declared.schema.Schema.{Schema}
-use Rattle.rdb_registry.specs.declared.seat.Transaction.{Transaction}
 use Rattle.rdb_sight.specs.Versions.{Version, Versions, Marks, objects_in, own_version, row_shown, shown}
 use Rattle.rdb_model.specs.Journal.{commits}
 use Rattle.rdb_shown.specs.Kept.{IsChain, AreVersions, IsUnseenBy, IsWork}
@@ -17,9 +16,9 @@ use Rattle.rdb_shown.specs.Changes.{Stamps}
 use Rattle.rdb_shown.proofs.KeptLemmas.{in_order, kept_after, same_work_after, same_shown, chain_restamped}
 use Rattle.rdb_shown.proofs.StampLemmas.{counted_marked, others_own}
 use Rattle.rdb_shown.proofs.StampedLemmas.{same_sights, restamped_sights, restamped_own, restamped_unseen}
-use Rattle.rdb_serial.specs.Progress.{Progress, Course, tx_of, holds, so_far, mark_in, marks_of}
-use Rattle.rdb_serial.specs.Histories.{History, Scene, scene_of, view, view_in, AreSameIn, IsPlanned}
-use Rattle.rdb_serial.specs.Serial.{IsScene, IsConnection, IsSerial}
+use Rattle.rdb_serial.specs.Progress.{Progress, tx_of, holds, so_far, mark_in, marks_of}
+use Rattle.rdb_serial.specs.Histories.{History, Scene, scene_of, view, AreSameIn, IsPlanned}
+use Rattle.rdb_serial.specs.Serial.{IsScene, IsSerial}
 use Rattle.rdb_serial.specs.Moves.{Turns, StampsVersion}
 use Rattle.rdb_serial.proofs.ViewLemmas.{length_view, view_latched, view_free, view_either}
 use Rattle.rdb_serial.proofs.ClassLemmas.{kept_either}
