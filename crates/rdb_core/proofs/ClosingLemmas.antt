@@ -202,14 +202,14 @@ module _ {P : Type 0} (s : State P) (u : Transactions) (c : ConnId) (whole : IsW
   roll_back_whole (answer.Ready (outcome.Committed commit)) b kept sound = absurd b
   roll_back_whole (answer.Ready (outcome.Ended at)) b kept sound = absurd b
   roll_back_whole (answer.Ready outcome.RolledBack) b kept sound =
-      whole_moved s u whole (ap (λ (r : Roll). r.classes) (moves b kept.0 kept.1.0 kept.1.1).registry) sound (at_once_rooms b kept.0 kept.1.0 kept.1.1)
+      whole_moved s u whole (ap (λ (r : Roll). r.classes) (moves b kept.0 kept.1 kept.2).registry) sound (at_once_rooms b kept.0 kept.1 kept.2)
   roll_back_whole (answer.Ready (outcome.Watching at)) b kept sound = absurd b
   roll_back_whole (answer.Ready (outcome.Event commit id)) b kept sound = absurd b
   roll_back_whole (answer.Ready (outcome.NoEvent at)) b kept sound = absurd b
   roll_back_whole (answer.Ready outcome.Closed) b kept sound = absurd b
   roll_back_whole answer.More b kept sound =
       whole_moved s u whole (ap (λ (r : Roll). r.classes) b.moves.registry) sound
-      (back_rooms s.transactions u c (goer b kept.0 kept.1.0 kept.1.1) cause.Asked b.moves b.spare (goer_held b kept.0 kept.1.0 kept.1.1))
+      (back_rooms s.transactions u c (goer b kept.0 kept.1 kept.2) cause.Asked b.moves b.spare (goer_held b kept.0 kept.1 kept.2))
   roll_back_whole (answer.Busy holder) b kept sound = absurd b
   roll_back_whole (answer.Conflict commit operation) b kept sound = absurd b
   roll_back_whole (answer.Full need room) b kept sound = absurd b

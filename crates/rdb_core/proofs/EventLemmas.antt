@@ -5,6 +5,7 @@ use Rattle.std.proofs.lemmas.List.Quantifiers.{position-Some}
 use Rattle.rdb_base.specs.declared.identity.ConnId.{ConnId}
 use Rattle.rdb_base.specs.declared.identity.Phase.{Phase}
 use Rattle.rdb_base.specs.declared.limits.TheConstants.{MAX_OPERATIONS}
+use Rattle.rdb_history.specs.Watches.{watch_place}
 use Rattle.rdb_registry.specs.declared.hand.Hand.{Hand}
 use Rattle.rdb_registry.specs.declared.hand.Work.{Work}
 use Rattle.rdb_registry.specs.declared.hand.Subscription.{Subscription}
@@ -17,7 +18,7 @@ use Rattle.rdb_answers.specs.declared.answer.Answer.{Answer}
 use Rattle.rdb_answers.specs.declared.answer.Answer.TheVariants as answer
 use Rattle.rdb_answers.specs.declared.answer.Outcome.TheVariants as outcome
 use Rattle.rdb_answers.specs.Callers.{IsAllowed, IsIdle, IsLive}
-use Rattle.rdb_answers.specs.Watching.{PollAnswer, Tells, TellsNone, WatchAnswer, Watches, WatchesEvent, watch_place, watching}
+use Rattle.rdb_answers.specs.Watching.{PollAnswer, Tells, TellsNone, WatchAnswer, Watches, WatchesEvent, watching}
 use Rattle.rdb_transactions.specs.declared.transactions.Transactions.{Transactions}
 use Rattle.rdb_transactions.specs.Hands.{is_watch_of, watch_of, with_watch, with_watch_at}
 use Rattle.rdb_transactions.specs.Moves.{IsSame, KeepsSpare, Moves}
@@ -108,7 +109,7 @@ module _ {P : Type 0} (s : State P) (u : Transactions) (c : ConnId) (whole : IsW
   watches_whole spare kept sound =
       let t = s.transactions in
       let f = whole.furnished c.slot seat (in_its_slot t.registry.seats c seat held) in
-      let rests = idle_rests kept.0 kept.1.0 kept.1.1 in
+      let rests = idle_rests kept.0 kept.1 kept.2 in
       whole_moved s u whole (ap (λ (r : Roll). r.classes) moves.registry) sound
       (told_rooms t u c seat (on_hand change) moves spare held
       (record {

@@ -116,7 +116,7 @@ module _ {P : Type 0} (s : State P) (u : Transactions) (c : ConnId) (k : Kind) (
       begun snapshot at b =
           let t = s.transactions in
           let held = of_held t.registry.seats c IsIdle (idle b.live) in
-          let rests : Rests t.manager (length s.schema.classes) held.0 = kept.1.1.rests c.slot held.0 (in_its_slot t.registry.seats c held.0 held.1.0) in
+          let rests : Rests t.manager (length s.schema.classes) held.0 = kept.2.rests c.slot held.0 (in_its_slot t.registry.seats c held.0 held.1.0) in
           whole_moved s u whole (ap (λ (r : Roll). r.classes) b.moves.registry) sound
           (begins_rooms t u c held.0 k b.moves b.spare held.1.0 (subst (λ (p : Phase). RestsIn t.manager (length s.schema.classes) held.0 p) held.1.1 rests) (may_begin t c k roll b.free))
 
@@ -148,7 +148,7 @@ module _ {P : Type 0} (s : State P) (u : Transactions) (c : ConnId) (whole : IsW
   resting live kept =
       let held = of_held s.transactions.registry.seats c IsIdle (idle live) in
       (held.0, held.1.0, subst (λ (p : Phase). RestsIn s.transactions.manager (length s.schema.classes) held.0 p) held.1.1
-          (kept.1.1.rests c.slot held.0 (in_its_slot s.transactions.registry.seats c held.0 held.1.0)))
+          (kept.2.rests c.slot held.0 (in_its_slot s.transactions.registry.seats c held.0 held.1.0)))
 
   pub disconnect_kept : (a : Answer) → DisconnectAnswer s.transactions u c a → (settled aimed : Versions) → Keeps s settled aimed → Keeps (record s { transactions = u }) settled aimed
   disconnect_kept a b settled aimed keeps =
@@ -157,7 +157,7 @@ module _ {P : Type 0} (s : State P) (u : Transactions) (c : ConnId) (whole : IsW
       closes : Closes s.transactions u c → Keeps (record s { transactions = u }) settled aimed
       closes b =
           let t = s.transactions in
-          let held = resting b.live (settled, (aimed, keeps)) in
+          let held = resting b.live (settled, aimed, keeps) in
           kept_under s u settled aimed b.leaves.manager
           (goes_kept s.schema t.manager (ground_in s.memory t.registry) (ground_in s.memory u.registry) c.slot held.0 whole.lawful (placed_in t.registry roll)
           (record {
