@@ -17,7 +17,7 @@ use Rattle.rdb_cells.specs.Records.{Record}
 use Rattle.rdb_registry.specs.declared.seat.Seat.{Seat}
 use Rattle.rdb_registry.specs.declared.seat.Transaction.{Transaction}
 use Rattle.rdb_registry.specs.Registry.{Roll, IsRoll}
-use Rattle.rdb_registry.specs.Seats.{Seats, may_write, seat_in, seat_of}
+use Rattle.rdb_registry.specs.Seats.{Seats, condemned_in, may_write, seat_in, seat_of}
 use Rattle.rdb_registry.proofs.SlotLemmas.{some_and_of}
 use Rattle.rdb_sight.specs.Versions.{Versions}
 use Rattle.rdb_answers.specs.declared.answer.Answer.{Answer}
@@ -25,14 +25,13 @@ use Rattle.rdb_answers.specs.declared.answer.Answer.TheVariants as answer
 use Rattle.rdb_answers.specs.declared.answer.Outcome.TheVariants as outcome
 use Rattle.rdb_answers.specs.Callers.{IsAllowed, IsLive, Runs}
 use Rattle.rdb_answers.specs.Ends.{IsClean, RollBackAnswer, RollsBack, RollsBackAtOnce}
-use Rattle.rdb_answers.proofs.CommitLemmas.{live_seat}
 use Rattle.rdb_transactions.specs.declared.transactions.Transactions.{Transactions}
 use Rattle.rdb_transactions.specs.Claims.{is_unmarked}
 use Rattle.rdb_transactions.specs.Hands.{without_story}
 use Rattle.rdb_transactions.specs.Moves.{ExchangesSpare, Moves, ends_with_story}
 use Rattle.rdb_transactions.specs.Records.{exchanged, is_single_writer, on_hand, rolls_back, spare_left, story_in}
 use Rattle.rdb_transactions.specs.Sound.{IsSound}
-use Rattle.rdb_transactions.proofs.EditLemmas.{of_held}
+use Rattle.rdb_transactions.proofs.EditLemmas.{of_held, stands}
 use Rattle.rdb_writes.proofs.WorkLemmas.{in_its_slot}
 use Rattle.rdb_steps.specs.declared.state.State.{State}
 use Rattle.rdb_steps.specs.Invariant.{IsSingle}
@@ -48,6 +47,12 @@ use Rattle.rdb_steps.proofs.RoomLemmas.{back_rooms}
 use Rattle.rdb_steps.proofs.WithoutLemmas.{back_kept}
 use Rattle.rdb_core.specs.Calls.{aimed_by_rolling_back}
 use Rattle.rdb_core.proofs.MovedLemmas.{kept_same, kept_under, placed_in, rooms_same, unchanged, whole_moved}
+
+-- the record of a connection that wasn't condemned says so
+live_seat : (t : Transactions) (c : ConnId) (seat : Seat) → IsRoll t.registry → IsLive t c → seat_of t.registry.seats c ≡ Some seat → seat.condemned ≡ None
+live_seat t c seat roll live at =
+    let there = stands t.registry.seats c seat at in
+    (roll.seated c.slot seat there.there).condemned ∙ (ap (condemned_in t.registry.condemned) there.conn ∙ live)
 
 writes_kind : (k : Kind) → may_write k ≡ true → k ≡ kind.ReadWrite
 writes_kind kind.ReadWrite e = refl
