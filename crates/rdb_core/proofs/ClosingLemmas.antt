@@ -71,38 +71,35 @@ only_writer manager.Mursiw seats single slot seat at writes other one different 
         absurd (different (sym (single refl slot other seat one first.0 second.0 at there first.1 (writes_kind first.0.kind first.2) second.1)))
 
 -- what a running transaction has in hand by its kind
-module _ {P : Type 0} (s : State P) (c : ConnId) (roll : IsRoll s.transactions.registry) (running : IsAllowed s.transactions c Runs) (live : IsLive s.transactions c) (settled aimed : Versions) (keeps : Keeps s settled aimed) where
-  runner : (seat : Seat) × (seat_of s.transactions.registry.seats c ≡ Some seat) × Runs seat
-  runner = let held = of_held s.transactions.registry.seats c Runs (running live) in (held.0, held.1.0, held.1.1)
+module _ {P : Type 0} (s : State P) (c : ConnId) (roll : IsRoll s.transactions.registry) (live : IsLive s.transactions c) (settled aimed : Versions) (keeps : Keeps s settled aimed) (seat : Seat) (held : seat_of s.transactions.registry.seats c ≡ Some seat) (runs : Runs seat) where
+  is_live : seat.condemned ≡ None
+  is_live = live_seat s.transactions c seat roll live held
 
-  is_live : runner.0.condemned ≡ None
-  is_live = live_seat s.transactions c runner.0 roll live runner.1
-
-  rests : (p : Phase) → runner.0.hand.phase ≡ p → RestsIn s.transactions.manager (length s.schema.classes) runner.0 p
+  rests : (p : Phase) → seat.hand.phase ≡ p → RestsIn s.transactions.manager (length s.schema.classes) seat p
   rests p is =
-      subst (λ (q : Phase). RestsIn s.transactions.manager (length s.schema.classes) runner.0 q) is
-      (keeps.rests c.slot runner.0 (in_its_slot s.transactions.registry.seats c runner.0 runner.1))
+      subst (λ (q : Phase). RestsIn s.transactions.manager (length s.schema.classes) seat q) is
+      (keeps.rests c.slot seat (in_its_slot s.transactions.registry.seats c seat held))
 
-  opened_by : (k : Kind) → runner.0.hand.phase ≡ phase.Running k → (t : Transaction) × (runner.0.transaction ≡ Some t)
+  opened_by : (k : Kind) → seat.hand.phase ≡ phase.Running k → (t : Transaction) × (seat.transaction ≡ Some t)
   opened_by kind.ReadOnly is =
-      let one = some_and_of (λ (t : Transaction). t.kind ≡ kind.ReadOnly) runner.0.transaction (rests (phase.Running kind.ReadOnly) is).reader in
+      let one = some_and_of (λ (t : Transaction). t.kind ≡ kind.ReadOnly) seat.transaction (rests (phase.Running kind.ReadOnly) is).reader in
       (one.0, one.1.0)
   opened_by kind.ReadWrite is =
-      let one = some_and_of (λ (t : Transaction). t.kind ≡ kind.ReadWrite) runner.0.transaction (rests (phase.Running kind.ReadWrite) is).writer.0 in
+      let one = some_and_of (λ (t : Transaction). t.kind ≡ kind.ReadWrite) seat.transaction (rests (phase.Running kind.ReadWrite) is).writer.0 in
       (one.0, one.1.0)
 
-  open_one : (t : Transaction) × (runner.0.transaction ≡ Some t)
-  open_one = opened_by runner.2.0 runner.2.1
+  open_one : (t : Transaction) × (seat.transaction ≡ Some t)
+  open_one = opened_by runs.0 runs.1
 
-  planless : (k : Kind) → runner.0.hand.phase ≡ phase.Running k → runner.0.hand.plan.pairs ≡ []
+  planless : (k : Kind) → seat.hand.phase ≡ phase.Running k → seat.hand.plan.pairs ≡ []
   planless kind.ReadOnly is = (rests (phase.Running kind.ReadOnly) is).rest.plan
   planless kind.ReadWrite is = (rests (phase.Running kind.ReadWrite) is).plan is_live
 
-  no_plan : runner.0.hand.plan.pairs ≡ []
-  no_plan = planless runner.2.0 runner.2.1
+  no_plan : seat.hand.plan.pairs ≡ []
+  no_plan = planless runs.0 runs.1
 
   -- one that has something to take back may write
-  may_have : (k : Kind) → runner.0.hand.phase ≡ phase.Running k → ¬ IsClean runner.0 → runner.0.hand.phase ≡ phase.Running kind.ReadWrite
+  may_have : (k : Kind) → seat.hand.phase ≡ phase.Running k → ¬ IsClean seat → seat.hand.phase ≡ phase.Running kind.ReadWrite
   may_have kind.ReadWrite is some = is
   may_have kind.ReadOnly is some = absurd (some ((rests (phase.Running kind.ReadOnly) is).rest.undo, (rests (phase.Running kind.ReadOnly) is).own))
 
@@ -124,15 +121,9 @@ furnishes manager.Mursiw seat = record { plan = refl; undo = refl; writer = refl
 
 module _ {P : Type 0} (s : State P) (u : Transactions) (c : ConnId) (whole : IsWhole s) (roll : IsRoll s.transactions.registry) (running : IsAllowed s.transactions c Runs) where
   -- at once
-  module _ (b : RollsBackAtOnce s.transactions u c) (settled aimed : Versions) (keeps : Keeps s settled aimed) where
-    seat : Seat
-    seat = (runner s c roll running b.live settled aimed keeps).0
-
-    held : seat_of s.transactions.registry.seats c ≡ Some seat
-    held = (runner s c roll running b.live settled aimed keeps).1
-
+  module _ (b : RollsBackAtOnce s.transactions u c) (settled aimed : Versions) (keeps : Keeps s settled aimed) (seat : Seat) (held : seat_of s.transactions.registry.seats c ≡ Some seat) (runs : Runs seat) where
     open_t : (t : Transaction) × (seat.transaction ≡ Some t)
-    open_t = open_one s c roll running b.live settled aimed keeps
+    open_t = open_one s c roll b.live settled aimed keeps seat held runs
 
     moves : Moves s.transactions u c (λ x. ends_with_story s.transactions (rolls_back s.transactions.manager cause.Asked x)) (entry.Abort (story_in c open_t.0 seat.hand) cause.Asked ∷ [])
     moves = b.moves seat open_t.0 held open_t.1
@@ -140,7 +131,7 @@ module _ {P : Type 0} (s : State P) (u : Transactions) (c : ConnId) (whole : IsW
     clean : HasNothingLeft seat
     clean =
         let none = b.clean seat open_t.0 held open_t.1 in
-        record { plan = no_plan s c roll running b.live settled aimed keeps; undo = none.0; own = none.1 }
+        record { plan = no_plan s c roll b.live settled aimed keeps seat held runs; undo = none.0; own = none.1 }
 
     at_once_kept : Keeps (record s { transactions = u }) settled aimed
     at_once_kept =
@@ -159,29 +150,22 @@ module _ {P : Type 0} (s : State P) (u : Transactions) (c : ConnId) (whole : IsW
         (only_writer t.manager t.registry.seats keeps.single c.slot seat (in_its_slot t.registry.seats c seat held))
 
   -- it goes on
-  module _ (b : RollsBack s.transactions u c) (settled aimed : Versions) (keeps : Keeps s settled aimed) where
-    goer : Seat
-    goer = (runner s c roll running b.live settled aimed keeps).0
+  module _ (b : RollsBack s.transactions u c) (settled aimed : Versions) (keeps : Keeps s settled aimed) (seat : Seat) (held : seat_of s.transactions.registry.seats c ≡ Some seat) (runs : Runs seat) where
+    unclean : ¬ IsClean seat
+    unclean = let one = open_one s c roll b.live settled aimed keeps seat held runs in b.unclean seat one.0 held one.1
 
-    goer_held : seat_of s.transactions.registry.seats c ≡ Some goer
-    goer_held = (runner s c roll running b.live settled aimed keeps).1
-
-    unclean : ¬ IsClean goer
-    unclean = let one = open_one s c roll running b.live settled aimed keeps in b.unclean goer one.0 goer_held one.1
-
-    goes_kept_on : Keeps (record s { transactions = u }) settled (taken_over goer aimed settled)
+    goes_kept_on : Keeps (record s { transactions = u }) settled (taken_over seat aimed settled)
     goes_kept_on =
         let t = s.transactions in
-        let runs = (runner s c roll running b.live settled aimed keeps).2 in
-        kept_under s u settled (taken_over goer aimed settled) b.moves.manager
-        (back_kept s.schema t.manager (ground_in s.memory t.registry) (ground_in s.memory u.registry) c goer cause.Asked whole.lawful
-        (record { cells = record { image = λ n. refl; classes = λ n. refl }; held = goer_held; records = ap (λ (r : Roll). r.seats) b.moves.registry })
-        (is_live s c roll running b.live settled aimed keeps) (no_plan s c roll running b.live settled aimed keeps)
-        (inl (may_have s c roll running b.live settled aimed keeps runs.0 runs.1 unclean)) s.counters.serials s.counters.ids.items settled aimed keeps)
+        kept_under s u settled (taken_over seat aimed settled) b.moves.manager
+        (back_kept s.schema t.manager (ground_in s.memory t.registry) (ground_in s.memory u.registry) c seat cause.Asked whole.lawful
+        (record { cells = record { image = λ n. refl; classes = λ n. refl }; held = held; records = ap (λ (r : Roll). r.seats) b.moves.registry })
+        (is_live s c roll b.live settled aimed keeps seat held runs) (no_plan s c roll b.live settled aimed keeps seat held runs)
+        (inl (may_have s c roll b.live settled aimed keeps seat held runs runs.0 runs.1 unclean)) s.counters.serials s.counters.ids.items settled aimed keeps)
 
     aims_after : Keeps (record s { transactions = u }) settled (aimed_by_rolling_back answer.More (seat_of s.transactions.registry.seats c) settled aimed)
     aims_after =
-        subst (λ (o : Option Seat). Keeps (record s { transactions = u }) settled (aimed_by_rolling_back answer.More o settled aimed)) (sym goer_held) goes_kept_on
+        subst (λ (o : Option Seat). Keeps (record s { transactions = u }) settled (aimed_by_rolling_back answer.More o settled aimed)) (sym held) goes_kept_on
 
   pub roll_back_kept : (a : Answer) → RollBackAnswer s.transactions u c a → (settled aimed : Versions) → Keeps s settled aimed →
       Keeps (record s { transactions = u }) settled (aimed_by_rolling_back a (seat_of s.transactions.registry.seats c) settled aimed)
@@ -189,12 +173,16 @@ module _ {P : Type 0} (s : State P) (u : Transactions) (c : ConnId) (whole : IsW
   roll_back_kept (answer.Ready (outcome.Did reply)) b settled aimed keeps = absurd b
   roll_back_kept (answer.Ready (outcome.Committed commit)) b settled aimed keeps = absurd b
   roll_back_kept (answer.Ready (outcome.Ended at)) b settled aimed keeps = absurd b
-  roll_back_kept (answer.Ready outcome.RolledBack) b settled aimed keeps = at_once_kept b settled aimed keeps
+  roll_back_kept (answer.Ready outcome.RolledBack) b settled aimed keeps =
+      let found = of_held s.transactions.registry.seats c Runs (running b.live) in
+      at_once_kept b settled aimed keeps found.0 found.1.0 found.1.1
   roll_back_kept (answer.Ready (outcome.Watching at)) b settled aimed keeps = absurd b
   roll_back_kept (answer.Ready (outcome.Event commit id)) b settled aimed keeps = absurd b
   roll_back_kept (answer.Ready (outcome.NoEvent at)) b settled aimed keeps = absurd b
   roll_back_kept (answer.Ready outcome.Closed) b settled aimed keeps = absurd b
-  roll_back_kept answer.More b settled aimed keeps = aims_after b settled aimed keeps
+  roll_back_kept answer.More b settled aimed keeps =
+      let found = of_held s.transactions.registry.seats c Runs (running b.live) in
+      aims_after b settled aimed keeps found.0 found.1.0 found.1.1
   roll_back_kept (answer.Busy holder) b settled aimed keeps = absurd b
   roll_back_kept (answer.Conflict commit operation) b settled aimed keeps = absurd b
   roll_back_kept (answer.Full need room) b settled aimed keeps = absurd b
@@ -207,14 +195,17 @@ module _ {P : Type 0} (s : State P) (u : Transactions) (c : ConnId) (whole : IsW
   roll_back_whole (answer.Ready (outcome.Committed commit)) b kept sound = absurd b
   roll_back_whole (answer.Ready (outcome.Ended at)) b kept sound = absurd b
   roll_back_whole (answer.Ready outcome.RolledBack) b kept sound =
-      whole_moved s u whole (ap (λ (r : Roll). r.classes) (moves b kept.0 kept.1 kept.2).registry) sound (at_once_rooms b kept.0 kept.1 kept.2)
+      let found = of_held s.transactions.registry.seats c Runs (running b.live) in
+      whole_moved s u whole (ap (λ (r : Roll). r.classes) (moves b kept.0 kept.1 kept.2 found.0 found.1.0 found.1.1).registry) sound
+      (at_once_rooms b kept.0 kept.1 kept.2 found.0 found.1.0 found.1.1)
   roll_back_whole (answer.Ready (outcome.Watching at)) b kept sound = absurd b
   roll_back_whole (answer.Ready (outcome.Event commit id)) b kept sound = absurd b
   roll_back_whole (answer.Ready (outcome.NoEvent at)) b kept sound = absurd b
   roll_back_whole (answer.Ready outcome.Closed) b kept sound = absurd b
   roll_back_whole answer.More b kept sound =
+      let found = of_held s.transactions.registry.seats c Runs (running b.live) in
       whole_moved s u whole (ap (λ (r : Roll). r.classes) b.moves.registry) sound
-      (back_rooms s.transactions u c (goer b kept.0 kept.1 kept.2) cause.Asked b.moves b.spare (goer_held b kept.0 kept.1 kept.2))
+      (back_rooms s.transactions u c found.0 cause.Asked b.moves b.spare found.1.0)
   roll_back_whole (answer.Busy holder) b kept sound = absurd b
   roll_back_whole (answer.Conflict commit operation) b kept sound = absurd b
   roll_back_whole (answer.Full need room) b kept sound = absurd b
