@@ -77,7 +77,7 @@ there (o ∷ os) zero x s e = e
 there (o ∷ os) (suc k) x s e = there os k x s e
 
 -- a single writer has an open transaction that may write
-writer_of : (s : Seat) → is_single_writer manager.Mursiw s ≡ true → (t : Transaction) × (s.transaction ≡ Some t) × (may_write t.kind ≡ true)
+pub writer_of : (s : Seat) → is_single_writer manager.Mursiw s ≡ true → (t : Transaction) × (s.transaction ≡ Some t) × (may_write t.kind ≡ true)
 writer_of s writes = go s.transaction refl
   where
     go : (o : Option Transaction) → s.transaction ≡ o → (t : Transaction) × (s.transaction ≡ Some t) × (may_write t.kind ≡ true)

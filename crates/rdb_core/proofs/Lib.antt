@@ -1,0 +1,4 @@
+pub mod MovedLemmas
+pub mod SessionLemmas
+pub mod EventLemmas
+pub mod ClosingLemmas
