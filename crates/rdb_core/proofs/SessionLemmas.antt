@@ -146,9 +146,12 @@ nothing_left seat idle = record { plan = idle.rest.plan; undo = idle.rest.undo; 
 module _ {P : Type 0} (s : State P) (u : Transactions) (c : ConnId) (whole : IsWhole s) (roll : IsRoll s.transactions.registry) (idle : IsAllowed s.transactions c IsIdle) where
   resting : IsLive s.transactions c → IsKeptSomehow s → (seat : Seat) × (seat_of s.transactions.registry.seats c ≡ Some seat) × IsResting seat
   resting live kept =
-      let held = of_held s.transactions.registry.seats c IsIdle (idle live) in
-      (held.0, held.1.0, subst (λ (p : Phase). RestsIn s.transactions.manager (length s.schema.classes) held.0 p) held.1.1
-          (kept.2.rests c.slot held.0 (in_its_slot s.transactions.registry.seats c held.0 held.1.0)))
+      let held = of_held s.transactions.registry.seats c IsIdle (idle live) in (
+        held.0,
+        held.1.0,
+        subst (λ (p : Phase). RestsIn s.transactions.manager (length s.schema.classes) held.0 p) held.1.1
+            (kept.2.rests c.slot held.0 (in_its_slot s.transactions.registry.seats c held.0 held.1.0)),
+      )
 
   pub disconnect_kept : (a : Answer) → DisconnectAnswer s.transactions u c a → (settled aimed : Versions) → Keeps s settled aimed → Keeps (record s { transactions = u }) settled aimed
   disconnect_kept a b settled aimed keeps =
