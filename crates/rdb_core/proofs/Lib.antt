@@ -2,3 +2,4 @@ pub mod MovedLemmas
 pub mod SessionLemmas
 pub mod EventLemmas
 pub mod ClosingLemmas
+pub mod ComesLemmas

@@ -1,4 +1,4 @@
-//! The calls of a World, each one step of one connection. Those that stand here touch no cell: a connection begins a transaction, goes,
+//! The calls of a World, each one step of one connection. Those that stand here touch no cell: a connection comes, begins a transaction, goes,
 //! is condemned, watches an event and asks for the next one, and rolls back. What is kept of the cells, the records and their rooms is kept by each, and of which versions.
 #![tactic(auto)]
 
@@ -8,4 +8,4 @@ mod sessions;
 
 pub use closing::roll_back;
 pub use events::{poll, watch};
-pub use sessions::{begin, condemn, disconnect};
+pub use sessions::{begin, condemn, connect, disconnect};
