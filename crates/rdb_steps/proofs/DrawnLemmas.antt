@@ -87,10 +87,8 @@ spent_more spent slot class need place k bound each = elim (which place slot) [
           ap (λ (n : ℕ). slice_index_or (with_spent spent slot class (spent_by spent slot class + need)) n []) same
           ∙ get_or-set_same spent slot (set (slice_index_or spent slot []) class (spent_by spent slot class + need)) [] within in
           let here = ap (λ (r : List ℕ). slice_index r k) row in
-          let more = in_row (slice_index_or spent slot []) (spent_by spent slot class) refl in
-          let most = each slot class in
-          let other = each slot k in
-          omega (arith, here, more, most, other)
+          let more = in_row (slice_index_or spent slot []) (spent_by spent slot class) (each slot class) (each slot k) in
+          omega (arith, here, more)
       | inr past ↦
           let none : slice_index_or (with_spent spent slot class (spent_by spent slot class + need)) place [] ≡ [] =
           get_or_past (with_spent spent slot class (spent_by spent slot class + need)) place []
@@ -104,13 +102,13 @@ spent_more spent slot class need place k bound each = elim (which place slot) [
       omega (arith, row, most)
 ]
   where
-    in_row : (r : List ℕ) (sum : ℕ) → slice_index r class ≡ sum → slice_index (set r class (sum + need)) k ≤ sum + slice_index r k + need
-    in_row r sum is = elim (cases_lt class (length r)) [
+    in_row : (r : List ℕ) (sum : ℕ) → sum ≤ bound → slice_index r k ≤ bound → slice_index (set r class (sum + need)) k ≤ bound + need
+    in_row r sum most other_most = elim (cases_lt class (length r)) [
       | inl within ↦ elim (which k class) [
-          | inl same ↦ let here = ap (λ (n : ℕ). slice_index (set r class (sum + need)) n) same ∙ get_or-set_same r class (sum + need) 0 within in omega (arith, here)
-          | inr other ↦ let there = get_or-set_other r class k (sum + need) 0 other in omega (arith, there)
+          | inl same ↦ let here = ap (λ (n : ℕ). slice_index (set r class (sum + need)) n) same ∙ get_or-set_same r class (sum + need) 0 within in omega (arith, here, most)
+          | inr other ↦ let there = get_or-set_other r class k (sum + need) 0 other in omega (arith, there, other_most)
         ]
-      | inr past ↦ let same = ap (λ (xs : List ℕ). slice_index xs k) (set_past r class (sum + need) past) in omega (arith, same)
+      | inr past ↦ let same = ap (λ (xs : List ℕ). slice_index xs k) (set_past r class (sum + need) past) in omega (arith, same, other_most)
     ]
       where
         set_past : (xs : List ℕ) (i x : ℕ) → length xs ≤ i → set xs i x ≡ xs

@@ -69,7 +69,7 @@ first_and_rest (y ∷ ys) x first = (ys, (let both : Some y ≡ Some x = first i
 
 map_some : (o : Option Version) (r : CellRef) → Some r ≡ option_map ref_of o → (v : Version) × ((o ≡ Some v) × (ref_of v ≡ r))
 map_some None r e = absurd (let no : Some r ≡ None = e in cc)
-map_some (Some v) r e = (v, refl, (let both : Some r ≡ Some (ref_of v) = e in let same : ref_of v ≡ r = cc in same))
+map_some (Some v) r e = (v, (refl, (let both : Some r ≡ Some (ref_of v) = e in let same : ref_of v ≡ r = cc in same)))
 
 no_version : (settled : Versions) (class id : ℕ) → length settled ≤ class → chain_in settled class id ≡ []
 no_version settled class id past = ap (λ (os : List Object). chain_of os id) (get_or_past settled class [] past)

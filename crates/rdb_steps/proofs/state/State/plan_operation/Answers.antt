@@ -31,11 +31,7 @@ use Rattle.rdb_steps.proofs.OwnSteps.{made_becomes, made_kept, made_nearer, made
 use Rattle.rdb_steps.proofs.state.State.plan_operation.Goals as goal
 
 pub draw_serial-serial-requires : goal.draw_serial-serial-requires
-draw_serial-serial-requires g c =
-    let s = c.args.self.now in
-    let seat = c.seat.result.now in
-    let due = has_seat s.transactions.registry.seats c.args.c (IsDue c.args.class) seat c.requires.due c.seat.ensures in
-    serial_fits s c.requires.whole c.sound.ensures
+draw_serial-serial-requires g c = serial_fits c.args.self.now c.requires.whole c.sound.ensures
 
 pub operation_of-requires : goal.operation_of-requires
 operation_of-requires g c =

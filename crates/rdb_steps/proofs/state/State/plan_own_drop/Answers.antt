@@ -1,10 +1,11 @@
-use Rattle.std.proofs.Common.{◌<◌, ◌≡◌, ℕ, Option, Some, IfNone, IfSome, refl, sym, ap, subst, ◌∙◌}
+use Rattle.std.proofs.Common.{◌<◌, ◌≡◌, ℕ, Option, Some, IfNone, IfSome, IsSome, refl, sym, ap, subst, ◌∙◌}
 use Rattle.rdb_base.specs.declared.identity.ConnId.{ConnId}
 use Rattle.rdb_registry.specs.declared.hand.Hand.{Hand}
+use Rattle.rdb_registry.specs.declared.seat.Seat.{Seat}
 use Rattle.rdb_registry.specs.declared.seat.Transaction.{Transaction}
 use Rattle.rdb_registry.specs.Registry.{IsRoll, Roll}
-use Rattle.rdb_registry.specs.Seats.{IsHolder, NoneHolds, with_hand}
-use Rattle.rdb_transactions.proofs.EditLemmas.{has_seat}
+use Rattle.rdb_registry.specs.Seats.{IsHolder, NoneHolds, add_latch, seat_of, with_hand}
+use Rattle.rdb_transactions.proofs.EditLemmas.{has_seat, record_after}
 use Rattle.rdb_writes.proofs.WorkLemmas.{in_its_slot}
 use Rattle.rdb_steps.specs.Invariant.{IsKept}
 use Rattle.rdb_steps.specs.Kept.{tx_of}
@@ -17,12 +18,7 @@ use Rattle.rdb_steps.proofs.OwnDropSteps.{dropped_kept, dropped_lays, dropped_ne
 use Rattle.rdb_steps.proofs.state.State.plan_own_drop.Goals as goal
 
 pub first_own-own-requires : goal.first_own-own-requires
-first_own-own-requires g c =
-    let s = c.args.self.now in
-    let seat = c.seat.result.now in
-    let own = c.first_own-own.result in
-    let due = has_seat s.transactions.registry.seats c.args.c IsToDrop seat c.requires.due c.seat.ensures in
-    due.own
+first_own-own-requires g c = (has_seat c.args.self.now.transactions.registry.seats c.args.c IsToDrop c.seat.result.now c.requires.due c.seat.ensures).own
 
 pub holder-requires : goal.holder-requires
 holder-requires g c =
@@ -95,7 +91,7 @@ returns-in-Some-clause-holder g c =
     let own = c.first_own-own.result in
     let due = has_seat s.transactions.registry.seats c.args.c IsToDrop seat c.requires.due c.seat.ensures in
     subst (λ (o : Option ConnId). IfSome o (λ holder. FirstWrite s c.args.c (λ x first. IsHolder s.transactions.registry.seats first.class holder))) (sym c.in-Some.is)
-    (first_write s c.args.c seat c.seat.ensures own c.first_own-own.ensures.first (λ x first. IsHolder s.transactions.registry.seats first.class c.in-Some.field-0)
+    (first_write s c.args.c seat c.seat.ensures own c.first_own-own.ensures.first (λ x first. IsHolder s.transactions.registry.seats first.class c.in-Some.holder)
     (subst (λ (o : Option ConnId). IfSome o (IsHolder s.transactions.registry.seats own.class)) c.in-Some.is c.holder.ensures.found))
 
 pub returns-in-Some-clause-record : goal.returns-in-Some-clause-record
@@ -166,3 +162,9 @@ returns-in-None-clause-whole g c =
     let own = c.first_own-own.result in
     let due = has_seat s.transactions.registry.seats c.args.c IsToDrop seat c.requires.due c.seat.ensures in
     dropped_whole s c.args.c c.requires.whole seat c.seat.ensures due own c.first_own-own.ensures.first c.take_latch.new.self c.take_latch.ensures (subst (λ (o : Option ConnId). IfNone o (NoneHolds s.transactions.registry.seats own.class)) c.in-None.is c.holder.ensures.none) c.sound.ensures c.seat_mut-hand.result.now c.lay_drop.new.hand c.seat_mut-hand.ensures.value c.lay_drop.ensures.hand c.lay_drop.ensures.plan c.lay_drop.ensures.leads c.requires.kept.0 c.requires.kept.1 c.requires.kept.2
+
+pub seat_mut-hand-requires : goal.seat_mut-hand-requires
+seat_mut-hand-requires g c =
+    let s = c.args.self.now in
+    subst (λ (r : Roll). IsSome (seat_of r.seats c.args.c)) (sym c.take_latch.ensures)
+    (subst (λ (o : Option Seat). IsSome o) (sym (record_after s.transactions.registry.seats c.args.c (add_latch c.first_own-own.result.class) c.seat.result.now (λ x. refl) c.seat.ensures)) refl)
