@@ -90,9 +90,8 @@ returns-in-Some-clause-holder g c =
     let seat = c.seat.result.now in
     let own = c.first_own-own.result in
     let due = has_seat s.transactions.registry.seats c.args.c IsToDrop seat c.requires.due c.seat.ensures in
-    subst (λ (o : Option ConnId). IfSome o (λ holder. FirstWrite s c.args.c (λ x first. IsHolder s.transactions.registry.seats first.class holder))) (sym c.in-Some.is)
-    (first_write s c.args.c seat c.seat.ensures own c.first_own-own.ensures.first (λ x first. IsHolder s.transactions.registry.seats first.class c.in-Some.holder)
-    (subst (λ (o : Option ConnId). IfSome o (IsHolder s.transactions.registry.seats own.class)) c.in-Some.is c.holder.ensures.found))
+    first_write s c.args.c seat c.seat.ensures own c.first_own-own.ensures.first (λ x first. IsHolder s.transactions.registry.seats first.class c.in-Some.holder)
+    (subst (λ (o : Option ConnId). IfSome o (IsHolder s.transactions.registry.seats own.class)) c.in-Some.is c.holder.ensures.found)
 
 pub returns-in-Some-clause-record : goal.returns-in-Some-clause-record
 returns-in-Some-clause-record g c =
