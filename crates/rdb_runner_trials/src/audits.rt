@@ -256,16 +256,20 @@ fn audited(
     report: &str,
     out: &mut MemorySink,
 ) -> Result<u8, NoMemory> {
-    let named = [
-        ("schema", schema.as_bytes()),
-        ("report", report.as_bytes()),
-    ];
+    let named = [("schema", schema.as_bytes()), ("report", report.as_bytes())];
     let mut files = files_of(alloc, &named, &[])?;
     status_of(alloc, "audit schema report", &mut files, out)
 }
 
 /// The audit of a report for a schema ends with this status and writes this line.
-fn is_judged(rt: &impl Abort, alloc: Global, schema: &str, report: &str, status: u8, line: &str) -> Result<(), NoMemory> {
+fn is_judged(
+    rt: &impl Abort,
+    alloc: Global,
+    schema: &str,
+    report: &str,
+    status: u8,
+    line: &str,
+) -> Result<(), NoMemory> {
     let mut out = whole_sink(alloc);
     assert_eq!(rt; audited(alloc, schema, report, &mut out)?, status, "{line}");
     assert!(rt; out.bytes() == line.as_bytes(), "{line}");

@@ -78,7 +78,10 @@ fn status_at(len: usize) -> u8 {
 fn a_schema_cut_to_each_length_is_checked(rt: HostRuntime) -> Result<(), Fail> {
     for len in 0..SCHEMA.len() + 1 {
         let mut out = whole_sink(rt.alloc());
-        assert_eq!(rt; checked(rt.alloc(), &SCHEMA[..len], &mut out)?, status_at(len));
+        assert_eq!(rt;
+            checked(rt.alloc(), &SCHEMA[..len], &mut out)?,
+            status_at(len)
+        );
     }
     Ok(())
 }

@@ -210,7 +210,11 @@ fn each_command_line_asks_for_what_its_words_say(rt: HostRuntime) -> Result<(), 
 #[test]
 fn what_is_no_command_line_is_refused(rt: HostRuntime) -> Result<(), Fail> {
     for words in REFUSED {
-        assert_eq!(rt; asked(&rt, rt.alloc(), words)?.as_str(), "none", "{words:?}");
+        assert_eq!(rt;
+            asked(&rt, rt.alloc(), words)?.as_str(),
+            "none",
+            "{words:?}"
+        );
     }
     Ok(())
 }

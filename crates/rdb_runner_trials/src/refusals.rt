@@ -10,8 +10,14 @@ use std::test::*;
 /// A schema, one that a replay can't run yet, and a text that breaks off in its second word; schedules, of which one isn't built yet; clients,
 /// of which one writes in a transaction that only reads, and one isn't of the simplest form.
 const FILES: [Named<'static>; 9] = [
-    ("schema", b"declare database shop; class Item { uint4 n; autoid; };"),
-    ("wide", b"declare database shop; class Item { uint8 n; autoid; };"),
+    (
+        "schema",
+        b"declare database shop; class Item { uint4 n; autoid; };",
+    ),
+    (
+        "wide",
+        b"declare database shop; class Item { uint8 n; autoid; };",
+    ),
     ("broken", b"declare datab"),
     ("schedule", b"1* 1"),
     ("nine", b"9"),
@@ -108,7 +114,12 @@ const REFUSALS: [Refusal<'static>; 24] = [
 ];
 
 /// The words of a refusal end with its status, and write its line.
-fn is_told(rt: &impl Abort, alloc: Global, files: &mut MemoryFiles, refusal: &Refusal<'_>) -> Result<(), NoMemory> {
+fn is_told(
+    rt: &impl Abort,
+    alloc: Global,
+    files: &mut MemoryFiles,
+    refusal: &Refusal<'_>,
+) -> Result<(), NoMemory> {
     let (line, status, text) = *refusal;
     let mut out = whole_sink(alloc);
     assert_eq!(rt; status_of(alloc, line, files, &mut out)?, status, "{line}");
@@ -150,7 +161,12 @@ fn each_read_that_fails_is_told(rt: HostRuntime) -> Result<(), Fail> {
     ];
     for (number, text) in refusals {
         let mut files = files_of(alloc, &FILES, &[number])?;
-        is_told(&rt, alloc, &mut files, &("replay schema schedule client1", 3, text))?;
+        is_told(
+            &rt,
+            alloc,
+            &mut files,
+            &("replay schema schedule client1", 3, text),
+        )?;
     }
     Ok(())
 }

@@ -8,7 +8,10 @@ use std::process::Abort;
 use std::test::*;
 
 const FILES: [Named<'static>; 3] = [
-    ("schema", b"declare database shop; class Item { uint4 n; autoid; };"),
+    (
+        "schema",
+        b"declare database shop; class Item { uint4 n; autoid; };",
+    ),
     ("schedule", b"1* 1"),
     ("client1", b"begin rw\nnew Item {7}\nget Item 1\ncommit\n"),
 ];
@@ -22,7 +25,10 @@ const LINES: u32 = 6;
 
 /// A class of two fields, and a client whose lines have carriage returns, blanks and a comment.
 const PAIR: [Named<'static>; 3] = [
-    ("schema", b"declare database shop; class Pair { uint4 a; uint4 b; autoid; };"),
+    (
+        "schema",
+        b"declare database shop; class Pair { uint4 a; uint4 b; autoid; };",
+    ),
     ("schedule", b" 1*\r\n\t1\n"),
     (
         "client1",
@@ -37,7 +43,12 @@ const PAIR_REPORT: &[u8] =
 const REPLAY: &str = "replay schema schedule client1";
 
 /// The replay over these files writes this report.
-fn reports(rt: &impl Abort, alloc: Global, files: &[Named<'_>], report: &[u8]) -> Result<(), NoMemory> {
+fn reports(
+    rt: &impl Abort,
+    alloc: Global,
+    files: &[Named<'_>],
+    report: &[u8],
+) -> Result<(), NoMemory> {
     let mut files = files_of(alloc, files, &[])?;
     let mut out = whole_sink(alloc);
     assert_eq!(rt; status_of(alloc, REPLAY, &mut files, &mut out)?, 0);

@@ -42,7 +42,11 @@ pub fn numbers_of(alloc: Global, numbers: &[u32]) -> Result<List<u32>, NoMemory>
 }
 
 /// These files, of which the reads with these numbers, from 1, fail.
-pub fn files_of(alloc: Global, named: &[Named<'_>], failing: &[u32]) -> Result<MemoryFiles, NoMemory> {
+pub fn files_of(
+    alloc: Global,
+    named: &[Named<'_>],
+    failing: &[u32],
+) -> Result<MemoryFiles, NoMemory> {
     let mut files = MemoryFiles::new(alloc, numbers_of(alloc, failing)?);
     for (name, bytes) in named {
         files.put(name, bytes)?;
