@@ -1,5 +1,6 @@
-//! The calls of a World, each one step of one connection. Those that stand here touch no cell: a connection comes, begins a transaction, goes,
-//! is condemned, watches an event and asks for the next one, and rolls back. What is kept of the cells, the records and their rooms is kept by each, and of which versions.
+//! The calls of a World, each one step of one connection. Those that stand here touch no cell: a connection comes, begins a
+//! transaction, goes, is condemned, watches an event and asks for the next one, and rolls back. What is kept of the cells, the
+//! records and their rooms is kept by each, and of which versions.
 #![tactic(auto)]
 
 mod closing;
