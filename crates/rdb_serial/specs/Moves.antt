@@ -1,6 +1,5 @@
 -- The moves of one connection that the serial history rests on: what each asks of the history before it, and what it leaves after it.
 use Rattle.std.specs.Prelude.{◌≡◌, ◌≢◌, ◌<◌, ◌≤◌, ◌+◌, ◌∷◌, ◌++◌, ◌⊎◌, ℕ, Bool, true, false, List, [], length, replicate, slice_index, Option, Some, None}
-use Rattle.rdb_base.specs.declared.identity.ConnId.{ConnId}
 use Rattle.rdb_base.specs.declared.identity.Kind.{Kind}
 use Rattle.rdb_base.specs.declared.identity.Kind.TheVariants as kind
 use Rattle.rdb_base.specs.declared.identity.Manager.{Manager}
@@ -26,7 +25,7 @@ use Rattle.rdb_history.specs.Rows.{row_left}
 use Rattle.rdb_history.specs.RowTouch.{IsUntouched}
 use Rattle.rdb_shown.specs.Changes.{Puts, DropsOwn, DropsGarbage, Stamps, HasNone}
 use Rattle.rdb_serial.specs.Progress.{Progress, Course, tx_of, holds, is_live, so_far, story_with, marks_of}
-use Rattle.rdb_serial.specs.Histories.{History, scene_of, shown_to, TakesOver, AreSameIn, IsFloor, AreHeldOnce}
+use Rattle.rdb_serial.specs.Histories.{History, scene_of, shown_to, TakesOver, AreSameIn, IsFloor}
 use Rattle.rdb_serial.specs.Serial.{IsCauseOf, IsUnrefused}
 
 -- one slot's progress is another, none where the slot is free; all others stay
