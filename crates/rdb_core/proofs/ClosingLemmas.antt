@@ -72,10 +72,10 @@ only_writer manager.Mursiw seats single slot seat at writes other one different 
 
 -- what a running transaction has in hand by its kind
 module _ {P : Type 0} (s : State P) (c : ConnId) (roll : IsRoll s.transactions.registry) (live : IsLive s.transactions c) (settled aimed : Versions) (keeps : Keeps s settled aimed) (seat : Seat) (held : seat_of s.transactions.registry.seats c ≡ Some seat) (runs : Runs seat) where
-  is_live : seat.condemned ≡ None
+  pub is_live : seat.condemned ≡ None
   is_live = live_seat s.transactions c seat roll live held
 
-  rests : (p : Phase) → seat.hand.phase ≡ p → RestsIn s.transactions.manager (length s.schema.classes) seat p
+  pub rests : (p : Phase) → seat.hand.phase ≡ p → RestsIn s.transactions.manager (length s.schema.classes) seat p
   rests p is =
       subst (λ (q : Phase). RestsIn s.transactions.manager (length s.schema.classes) seat q) is
       (keeps.rests c.slot seat (in_its_slot s.transactions.registry.seats c seat held))
@@ -88,14 +88,14 @@ module _ {P : Type 0} (s : State P) (c : ConnId) (roll : IsRoll s.transactions.r
       let one = some_and_of (λ (t : Transaction). t.kind ≡ kind.ReadWrite) seat.transaction (rests (phase.Running kind.ReadWrite) is).writer.0 in
       (one.0, one.1.0)
 
-  open_one : (t : Transaction) × (seat.transaction ≡ Some t)
+  pub open_one : (t : Transaction) × (seat.transaction ≡ Some t)
   open_one = opened_by runs.0 runs.1
 
   planless : (k : Kind) → seat.hand.phase ≡ phase.Running k → seat.hand.plan.pairs ≡ []
   planless kind.ReadOnly is = (rests (phase.Running kind.ReadOnly) is).rest.plan
   planless kind.ReadWrite is = (rests (phase.Running kind.ReadWrite) is).plan is_live
 
-  no_plan : seat.hand.plan.pairs ≡ []
+  pub no_plan : seat.hand.plan.pairs ≡ []
   no_plan = planless runs.0 runs.1
 
   -- one that has something to take back may write

@@ -3,3 +3,4 @@ pub mod SessionLemmas
 pub mod EventLemmas
 pub mod ClosingLemmas
 pub mod ComesLemmas
+pub mod CommitLemmas

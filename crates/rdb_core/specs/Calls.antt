@@ -2,9 +2,11 @@
 use Rattle.std.specs.Prelude.{◌≡◌, Option, Some, None, is_some, if◌then◌else◌}
 use Rattle.rdb_answers.specs.declared.answer.Answer.{Answer}
 use Rattle.rdb_answers.specs.declared.answer.Answer.TheVariants as answer
+use Rattle.rdb_answers.specs.declared.answer.Outcome.TheVariants as outcome
 use Rattle.rdb_registry.specs.declared.seat.Seat.{Seat}
 use Rattle.rdb_sight.specs.Versions.{Versions}
 use Rattle.rdb_steps.specs.declared.state.State.{State}
+use Rattle.rdb_steps.specs.Lists.{taken_over}
 use Rattle.rdb_steps.specs.Moves.{aimed_without}
 use Rattle.rdb_steps.specs.Steps.{aimed_by_taking_back}
 
@@ -26,3 +28,19 @@ aimed_by_condemning _ seat settled aimed = aimed_once_condemned seat settled aim
 abbrev pub aimed_by_rolling_back : Answer → Option Seat → Versions → Versions → Versions
 aimed_by_rolling_back answer.More seat settled aimed = aimed_by_taking_back seat settled aimed
 aimed_by_rolling_back _ seat settled aimed = aimed
+
+-- what is settled once a transaction is marked: what its connection aimed at in its classes
+abbrev pub settled_by_mark : Option Seat → Versions → Versions → Versions
+settled_by_mark None settled aimed = settled
+settled_by_mark (Some seat) settled aimed = taken_over seat settled aimed
+
+-- the same by the answer to a client that commits: a transaction is marked that is committed, or goes on
+abbrev pub settled_by_committing : Answer → Option Seat → Versions → Versions → Versions
+settled_by_committing (answer.Ready (outcome.Committed commit)) seat settled aimed = settled_by_mark seat settled aimed
+settled_by_committing answer.More seat settled aimed = settled_by_mark seat settled aimed
+settled_by_committing _ seat settled aimed = settled
+
+-- what is aimed at then: with a conflict, what the connection aimed at is no longer spoken of
+abbrev pub aimed_by_committing : Answer → Option Seat → Versions → Versions → Versions
+aimed_by_committing (answer.Conflict commit operation) seat settled aimed = aimed_by_taking_back seat settled aimed
+aimed_by_committing _ seat settled aimed = aimed

@@ -1,5 +1,5 @@
 //! The calls of a World, each one step of one connection. Those that stand here touch no cell: a connection comes, begins a
-//! transaction, goes, is condemned, watches an event and asks for the next one, and rolls back. What is kept of the cells, the
+//! transaction, goes, is condemned, watches an event and asks for the next one, commits, and rolls back. What is kept of the cells, the
 //! records and their rooms is kept by each, and of which versions.
 #![tactic(auto)]
 
@@ -7,6 +7,6 @@ mod closing;
 mod events;
 mod sessions;
 
-pub use closing::roll_back;
+pub use closing::{commit, roll_back};
 pub use events::{poll, watch};
 pub use sessions::{begin, condemn, connect, disconnect};
