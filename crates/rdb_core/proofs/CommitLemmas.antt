@@ -1,5 +1,5 @@
 -- A running transaction is ended, marked, or refused for a conflict: what is kept of a World.
-use Rattle.std.proofs.Common.{◌≡◌, ◌≢◌, ◌<◌, ◌≤◌, ◌+◌, ℕ, Bool, true, false, cond, List, [], ◌∷◌, ◌*◌, length, Option, Some, None, IsSome, IsSomeAnd, is_some, append-nil, mul-one, refl, sym, ap, subst, ◌∙◌, inl, arith}
+use Rattle.std.proofs.Common.{◌≡◌, ◌≢◌, ◌<◌, ◌≤◌, ◌+◌, ℕ, Bool, true, false, cond, List, [], ◌∷◌, ◌*◌, length, Option, Some, None, IsSome, IsSomeAnd, is_some, option_map, append-nil, mul-one, refl, sym, ap, subst, ◌∙◌, inl, arith}
 use Rattle.std.proofs.lemmas.Bool.{false≢true}
 use Rattle.std.specs.Option.{option_map_or}
 use Rattle.rdb_base.specs.declared.identity.ConnId.{ConnId}
@@ -19,7 +19,7 @@ use Rattle.rdb_registry.specs.declared.hand.Work.{Work}
 use Rattle.rdb_registry.specs.declared.seat.Seat.{Seat}
 use Rattle.rdb_registry.specs.declared.seat.Transaction.{Transaction}
 use Rattle.rdb_registry.specs.Registry.{Roll, IsRoll}
-use Rattle.rdb_registry.specs.Seats.{Seats, may_write, seat_in, seat_of}
+use Rattle.rdb_registry.specs.Seats.{Seats, marked, may_write, seat_in, seat_of}
 use Rattle.rdb_registry.proofs.SlotLemmas.{some_and_of}
 use Rattle.rdb_sight.specs.Versions.{Versions}
 use Rattle.rdb_answers.specs.declared.answer.Answer.{Answer}
@@ -50,12 +50,11 @@ use Rattle.rdb_steps.proofs.ExchangeLemmas.{ends_rooms}
 use Rattle.rdb_steps.proofs.MarkLemmas.{marked_kept}
 use Rattle.rdb_steps.proofs.MoveLemmas.{changes_replace, each_now, of_one}
 use Rattle.rdb_steps.proofs.IdleLemmas.{ends_kept}
-use Rattle.rdb_steps.proofs.RoomLemmas.{back_rooms, by_mark, by_transaction, moves_slot, planned_few, same_rooms, told_rooms}
+use Rattle.rdb_steps.proofs.RoomLemmas.{back_rooms, by_transaction, moves_slot, planned_few, same_rooms, told_rooms}
 use Rattle.rdb_steps.proofs.WithoutLemmas.{back_kept}
 use Rattle.rdb_core.specs.Calls.{aimed_by_committing, settled_by_committing, settled_by_mark}
 use Rattle.rdb_core.proofs.ClosingLemmas.{is_live, no_plan, only_writer, open_one, rests}
 use Rattle.rdb_core.proofs.MovedLemmas.{kept_same, kept_under, placed_in, rooms_same, unchanged, whole_moved}
-
 
 -- the record with its story moved out
 abbrev untold : Seat → Seat
@@ -81,6 +80,14 @@ reader_alone manager.Mursiw s t is reads =
 -- a reader leaves the spare undo record
 left_by_reader : (m : Manager) (spare : Record) (s : Seat) → is_single_writer m s ≡ false → spare_left m spare s ≡ spare
 left_by_reader m spare s none = ap (λ (b : Bool). cond b s.hand.undo spare) none
+
+by_mark : (m : Manager) (commit : ℕ) (s : Seat) → is_single_writer m (becomes_marked commit s) ≡ is_single_writer m s
+by_mark manager.Mvcc commit s = refl
+by_mark manager.Mursiw commit s = go s.transaction
+  where
+    go : (o : Option Transaction) → option_map_or (λ t. may_write t.kind) (option_map (marked commit) o) false ≡ option_map_or (λ t. may_write t.kind) o false
+    go None = refl
+    go (Some t) = refl
 
 marked_writer : (m : Manager) (commit : ℕ) (s : Seat) → is_single_writer m (marks commit s) ≡ is_single_writer m s
 marked_writer m commit s = by_mark m commit (untold s) ∙ by_transaction m (untold s) s refl
@@ -152,9 +159,9 @@ module _ {P : Type 0} (s : State P) (u : Transactions) (c : ConnId) (whole : IsW
         let t = s.transactions in
         ends_rooms t u c seat untold (entry.Read (story_in c open_t.0 seat.hand) ∷ []) read_moves
         (λ x has.
-            let one : untold x ≡ untold seat = ap untold (same_seat t.registry.seats c x seat has held) in
-            b.spare ∙ sym (ap (spare_left t.manager t.spare_undo) one
-                ∙ left_by_reader t.manager t.spare_undo (untold seat) (reader_alone t.manager (untold seat) open_t.0 open_t.1 (b.reads seat open_t.0 held open_t.1).0)))
+        let one : untold x ≡ untold seat = ap untold (same_seat t.registry.seats c x seat has held) in
+        b.spare ∙ sym (ap (spare_left t.manager t.spare_undo) one
+        ∙ left_by_reader t.manager t.spare_undo (untold seat) (reader_alone t.manager (untold seat) open_t.0 open_t.1 (b.reads seat open_t.0 held open_t.1).0)))
         held
         (record { plan = refl; undo = refl; writer = by_transaction t.manager (untold seat) seat refl; work = none_works; done = omega arith })
         (λ none. absurd (let no : entry.Read (story_in c open_t.0 seat.hand) ∷ [] ≡ [] = none in cc)) only
