@@ -176,6 +176,13 @@ drop_nearer schema manager serials ids memory after roll seats_now c settled aim
     mends : IsMended w.seat × (is_marked w.seat ≡ false)
     mends = dropping_mends manager (length schema.classes) w.seat (kept.rests c.slot w.seat at) drops
 
+at_most : (m : Manager) (x : Seat) → is_marked x ≡ false → is_dropping x.hand ≡ false → length x.hand.undo.pairs ≡ 0 → repair_debt m x < 1027 * settled_own m x + 3
+at_most m x free still none = go (not (is_written x.hand) || not (x.latches == 0)) refl
+  where
+    go : (h : Bool) → (not (is_written x.hand) || not (x.latches == 0)) ≡ h → repair_debt m x < 1027 * settled_own m x + 3
+    go true e = let is = holding_debt m x free still none true e in omega (arith, is)
+    go false e = let is = holding_debt m x free still none false e in omega (arith, is)
+
 -- a pair is taken back
 module _ (manager : Manager) (before after : RegionCells) (seats seats_now : Seats) (c : ConnId) (b : TakesPairBack before after seats seats_now c) (single : spans_one_plan manager ≡ false) (unmarked : is_marked b.seat ≡ false)
     (quiet : is_dropping b.seat.hand ≡ false) (rolls : b.seat.hand.phase ≡ phase.RollingBack) where
@@ -199,13 +206,6 @@ module _ (manager : Manager) (before after : RegionCells) (seats seats_now : Sea
     where
       no_drop : is_dropping (record b.seat.hand { undo = b.hand.undo; plan = b.hand.plan; own = own }) ≡ false
       no_drop = none_dropped (record b.seat.hand { undo = b.hand.undo; plan = b.hand.plan; own = own }) (ap (λ (r : Record). r.pairs) b.plan)
-
-      at_most : (m : Manager) (x : Seat) → is_marked x ≡ false → is_dropping x.hand ≡ false → length x.hand.undo.pairs ≡ 0 → repair_debt m x < 1027 * settled_own m x + 3
-      at_most m x free still none = go (not (is_written x.hand) || not (x.latches == 0)) refl
-        where
-          go : (h : Bool) → (not (is_written x.hand) || not (x.latches == 0)) ≡ h → repair_debt m x < 1027 * settled_own m x + 3
-          go true e = let is = holding_debt m x free still none true e in omega (arith, is)
-          go false e = let is = holding_debt m x free still none false e in omega (arith, is)
 
   pub back_falls : FallsDebt manager b.seat (record b.seat { hand = forgetting_own b.hand })
   back_falls =

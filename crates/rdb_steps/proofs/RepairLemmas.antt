@@ -41,7 +41,6 @@ use Rattle.rdb_steps.proofs.ListLemmas.{lists_given_up}
 use Rattle.rdb_steps.proofs.MixLemmas.{taken_twice}
 use Rattle.rdb_steps.proofs.ReleaseLemmas.{with_seats, hand_stays, latches_go, no_latches}
 use Rattle.rdb_steps.proofs.RestLemmas.{HasWriter, writer_of}
-use Rattle.rdb_steps.proofs.StateBacks.{none_owned}
 
 -- the pairs are one more
 pub one_longer : (was now : Record) (p : Pair) → was ≡ record now { pairs = now.pairs ++ p ∷ [] } → length now.pairs + 1 ≡ length was.pairs
@@ -52,6 +51,10 @@ one_longer was now p e =
 
 some_pairs : (ps : List Pair) → 0 < length ps → ps ≡ [] → ⊥
 some_pairs ps some none = let no : length ps ≡ 0 = ap length none in omega (arith, some, no)
+
+nothing : (ps : List Pair) → (length ps == 0) ≡ true → ps ≡ []
+nothing [] e = refl
+nothing (p ∷ ps) e = let none = eqb-true (length (p ∷ ps)) 0 e in absurd (omega (arith, none))
 
 -- who has logged a cell is a writer without a mark
 pub logged_writer : (manager : Manager) (classes : ℕ) (seat : Seat) → Rests manager classes seat → 0 < length seat.hand.undo.pairs → HasWriter seat × (is_marked seat ≡ false)
@@ -69,7 +72,9 @@ logged_writer manager classes seat rests some = go seat.hand.phase rests
 
 -- the own writes go with the last pair, where a single writer's undo record spans them
 left_none : (manager : Manager) (h : Hand) → spans_one_plan manager ≡ false → h.undo.pairs ≡ [] → (left_hand manager h).own.items ≡ []
-left_none manager h single empty = ap (λ (b : Bool). (cond b h (cond (length h.undo.pairs == 0) (record h { own = record { items = []; room = h.own.room + length h.own.items } }) h)).own.items) single ∙ none_owned h empty
+left_none manager h single empty =
+    ap (λ (b : Bool). (cond b h (cond (length h.undo.pairs == 0) (record h { own = record { items = []; room = h.own.room + length h.own.items } }) h)).own.items) single
+    ∙ ap (λ (b : Bool). (cond b (record h { own = record { items = []; room = h.own.room + length h.own.items } }) h).own.items) (ap (λ (ps : List Pair). length ps == 0) empty)
 
 -- latches that are given up or stay
 kept_latch : (seat : Seat) (b : Bool) (class : ℕ) → HoldsLatch (record seat { latches = cond b 0 seat.latches }) class → HoldsLatch seat class
@@ -164,10 +169,6 @@ module _ (schema : Schema) (manager : Manager) (memory memory_now : RegionCells)
         subst (λ (vs : Versions). Agrees schema manager (with_seats (ground_in memory_now mid) (changed (with_hand mid.seats c.slot f) c.slot (with_latches 0))) settled vs) (taken_twice b.seat settled aimed)
         (latches_go schema manager (ground_in memory_now mid) c (record b.seat { hand = b.hand }) f lawful works one_mid seat_mid undo_is plan_is
         (ap (λ (u : Record). u.pairs) undo_is ∙ nothing b.hand.undo.pairs e) no_plan spoken settled (taken_over b.seat aimed settled) agrees_mid)
-      where
-        nothing : (ps : List Pair) → (length ps == 0) ≡ true → ps ≡ []
-        nothing [] e = refl
-        nothing (p ∷ ps) e = let none = eqb-true (length (p ∷ ps)) 0 e in absurd (omega (arith, none))
     agrees_then false e =
         hand_stays schema manager (ground_in memory_now mid) c (record b.seat { hand = b.hand }) f lawful works one_mid seat_mid undo_is plan_is spoken settled (taken_over b.seat aimed settled) agrees_mid
 

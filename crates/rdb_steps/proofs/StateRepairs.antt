@@ -10,7 +10,7 @@ use Rattle.rdb_registry.specs.declared.hand.Hand.{Hand}
 use Rattle.rdb_registry.specs.declared.hand.Work.{Work}
 use Rattle.rdb_registry.specs.declared.seat.Seat.{Seat}
 use Rattle.rdb_registry.specs.Registry.{Roll, IsRoll}
-use Rattle.rdb_registry.specs.Seats.{Seats, seat_of}
+use Rattle.rdb_registry.specs.Seats.{Seats, changed, seat_of, with_latches}
 use Rattle.rdb_space.specs.Memory.{RegionCells}
 use Rattle.rdb_transactions.specs.declared.transactions.Transactions.{Transactions}
 use Rattle.rdb_transactions.specs.Hands.{given_up}
@@ -31,6 +31,7 @@ use Rattle.rdb_steps.specs.States.{IsWhole, ground_in}
 use Rattle.rdb_steps.specs.Steps.{KeepsAs, WritesOne, aimed_by_taking_back}
 use Rattle.rdb_steps.specs.Written.{FallsDebt}
 use Rattle.rdb_steps.proofs.DebtFalls.{left_latches, left_own, release_falls, repair_falls, repaired_is}
+use Rattle.rdb_steps.proofs.FreeLemmas.{record_freed, state_freed}
 use Rattle.rdb_steps.proofs.RepairLemmas.{kept_repaired, one_longer, registry_is}
 use Rattle.rdb_steps.proofs.RepairWhole.{whole_repaired}
 use Rattle.rdb_steps.proofs.StateStamps.{marked_stamps}
@@ -70,6 +71,19 @@ module _ {P : Type 0} (s : State P) (t : Transactions) (c : ConnId) (whole : IsW
       subst (λ (x : Seat). FallsDebt s.transactions.manager x b) (same_seat s.transactions.registry.seats c found.0 a found.1.0 at_a)
       (subst (λ (x : Seat). FallsDebt s.transactions.manager found.0 x) (same_seat t.registry.seats c (set_free found.0) b there at_b)
       (release_falls s.transactions.manager found.0 condemned (of_found (λ seat. seat.hand.undo.pairs ≡ []) logged_one) idle (of_found HoldsUnfinished holds)))
+
+-- so it is where the latches are given up last
+module _ {P : Type 0} (s : State P) (t : Transactions) (last : Roll) (c : ConnId) (whole : IsWhole s) (roll : IsRoll s.transactions.registry)
+    (condemned_one : IsSomeAnd (seat_of s.transactions.registry.seats c) (λ seat. IsSome seat.condemned)) (logged_one : IsSomeAnd (seat_of s.transactions.registry.seats c) (λ seat. seat.hand.undo.pairs ≡ []))
+    (gives : IsSomeAnd (seat_of s.transactions.registry.seats c) (λ seat. Repairs s.transactions t c seat (on_hand given_up))) (leaves : last ≡ record t.registry { seats = changed t.registry.seats c.slot (with_latches 0) }) where
+  pub becomes_free : IsSomeAnd (seat_of s.transactions.registry.seats c) (λ seat. Repairs s.transactions (record t { registry = last }) c seat set_free)
+  becomes_free =
+      subst (λ (r : Roll). IsSomeAnd (seat_of s.transactions.registry.seats c) (λ seat. Repairs s.transactions (record t { registry = r }) c seat set_free)) (sym leaves) (record_freed s.transactions t c gives)
+
+  pub keeps_free : KeepsAs s (record s { transactions = record t { registry = last } }) the_settled (aimed_by_taking_back (seat_of s.transactions.registry.seats c))
+  keeps_free settled aimed kept =
+      subst (λ (r : Roll). IsKept s.schema t.manager s.counters.serials s.counters.ids.items (ground_in s.memory r) settled (aimed_by_taking_back (seat_of s.transactions.registry.seats c) settled aimed)) (sym leaves)
+      (state_freed s.transactions t c gives s.schema s.counters.serials s.counters.ids.items s.memory whole.lawful roll condemned_one logged_one settled aimed kept)
 
 -- the place of the write in work is claimed
 pub work_claimed : {P : Type 0} (s : State P) (c : ConnId) → IsWhole s → (seat : Seat) → seat_of s.transactions.registry.seats c ≡ Some seat → in_work seat ≤ s.transactions.claims.writes
