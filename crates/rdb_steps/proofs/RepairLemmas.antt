@@ -20,7 +20,7 @@ use Rattle.rdb_sight.specs.Versions.{Versions}
 use Rattle.rdb_space.specs.Memory.{RegionCells}
 use Rattle.rdb_transactions.specs.Hands.{given_up, with_undo}
 use Rattle.rdb_transactions.specs.Records.{edited, on_hand}
-use Rattle.rdb_transactions.proofs.EditLemmas.{alike, record_after, then_edited, twice}
+use Rattle.rdb_transactions.proofs.EditLemmas.{alike, of_held, record_after, then_edited, twice}
 use Rattle.rdb_writes.specs.Grounds.{AreWorks}
 use Rattle.rdb_writes.specs.Steps.{TakesNewestBack, spans_one_plan}
 use Rattle.rdb_writes.proofs.PlanLemmas.{longer_by_one}
@@ -80,6 +80,18 @@ left_none manager h single empty =
 kept_latch : (seat : Seat) (b : Bool) (class : ℕ) → HoldsLatch (record seat { latches = cond b 0 seat.latches }) class → HoldsLatch seat class
 kept_latch seat true class has = absurd (no_latches seat class has)
 kept_latch seat false class has = has
+
+-- a hand that is left, and then its latches, are one change
+pub leave_both : (roll : Roll) (c : ConnId) (manager : Manager) (h now : Hand) (last : Roll) → IsSomeAnd (seat_of roll.seats c) (λ seat. h ≡ seat.hand) → now ≡ left_hand manager h → (length h.undo.pairs == 0) ≡ true →
+    last ≡ record roll { seats = changed (with_hand roll.seats c.slot now) c.slot (with_latches 0) } → last ≡ edited roll c.slot (left manager)
+leave_both roll c manager h now last lent leaves empty is =
+    let found = of_held roll.seats c (λ seat. h ≡ seat.hand) lent in
+    let hands : now ≡ left_hand manager found.0.hand = leaves ∙ ap (left_hand manager) found.1.1 in
+    let none : (length found.0.hand.undo.pairs == 0) ≡ true = sym (ap (λ (x : Hand). length x.undo.pairs == 0) found.1.1) ∙ empty in
+    is ∙ ap (λ (seats : Seats). record roll { seats = seats })
+    (twice roll.seats c.slot (λ (s : Seat). record s { hand = now }) (with_latches 0)
+    ∙ alike roll.seats c.slot found.0 (λ (s : Seat). record s { hand = now; latches = 0 }) (left manager) (in_its_slot roll.seats c found.0 found.1.0)
+    (λ i. record found.0 { hand = hands i; latches = cond (sym none i) 0 found.0.latches }))
 
 module _ (schema : Schema) (manager : Manager) (memory memory_now : RegionCells) (roll mid : Roll) (c : ConnId) (lawful : IsLawful schema) (sound : IsRoll roll) (b : TakesNewestBack (ground_in memory roll) (ground_in memory_now mid) c) (works : AreWorks (ground_in memory_now mid))
     (condemned : IsSome b.seat.condemned) where
