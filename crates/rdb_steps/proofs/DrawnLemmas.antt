@@ -64,12 +64,12 @@ live_planned x unmarked live = λ i. cond (not (unmarked i)) 0 (cond (live i) MA
 pub one_drawn : (ids : List ℕ) (class k : ℕ) → slice_index (set ids class (slice_index ids class + 1)) k ≤ slice_index ids k + 1
 one_drawn ids class k = elim (cases_lt class (length ids)) [
   | inl within ↦ elim (which k class) [
-      | inl same ↦
-          let here = ap (λ (n : ℕ). slice_index (set ids class (slice_index ids class + 1)) n) same ∙ get_or-set_same ids class (slice_index ids class + 1) 0 within in
-          let was = ap (λ (n : ℕ). slice_index ids n) same in
-          omega (arith, here, was)
-      | inr other ↦ let there = get_or-set_other ids class k (slice_index ids class + 1) 0 other in omega (arith, there)
-    ]
+    | inl same ↦
+        let here = ap (λ (n : ℕ). slice_index (set ids class (slice_index ids class + 1)) n) same ∙ get_or-set_same ids class (slice_index ids class + 1) 0 within in
+        let was = ap (λ (n : ℕ). slice_index ids n) same in
+        omega (arith, here, was)
+    | inr other ↦ let there = get_or-set_other ids class k (slice_index ids class + 1) 0 other in omega (arith, there)
+  ]
   | inr past ↦ let same = ap (λ (xs : List ℕ). slice_index xs k) (set_past ids class (slice_index ids class + 1) past) in omega (arith, same)
 ]
   where
@@ -82,20 +82,20 @@ one_drawn ids class k = elim (cases_lt class (length ids)) [
 pub spent_more : (spent : List (List ℕ)) (slot class need place k bound : ℕ) → ((i j : ℕ) → spent_by spent i j ≤ bound) → spent_by (with_spent spent slot class (spent_by spent slot class + need)) place k ≤ bound + need
 spent_more spent slot class need place k bound each = elim (which place slot) [
   | inl same ↦ elim (cases_lt slot (length spent)) [
-      | inl within ↦
-          let row : slice_index_or (with_spent spent slot class (spent_by spent slot class + need)) place [] ≡ set (slice_index_or spent slot []) class (spent_by spent slot class + need) =
-          ap (λ (n : ℕ). slice_index_or (with_spent spent slot class (spent_by spent slot class + need)) n []) same
-          ∙ get_or-set_same spent slot (set (slice_index_or spent slot []) class (spent_by spent slot class + need)) [] within in
-          let here = ap (λ (r : List ℕ). slice_index r k) row in
-          let more = in_row (slice_index_or spent slot []) (spent_by spent slot class) (each slot class) (each slot k) in
-          omega (arith, here, more)
-      | inr past ↦
-          let none : slice_index_or (with_spent spent slot class (spent_by spent slot class + need)) place [] ≡ [] =
-          get_or_past (with_spent spent slot class (spent_by spent slot class + need)) place []
-          (let long = length-set spent slot (set (slice_index_or spent slot []) class (spent_by spent slot class + need)) in omega (arith, long, past, same)) in
-          let here = ap (λ (r : List ℕ). slice_index r k) none in
-          omega (arith, here)
-    ]
+    | inl within ↦
+        let row : slice_index_or (with_spent spent slot class (spent_by spent slot class + need)) place [] ≡ set (slice_index_or spent slot []) class (spent_by spent slot class + need) =
+        ap (λ (n : ℕ). slice_index_or (with_spent spent slot class (spent_by spent slot class + need)) n []) same
+        ∙ get_or-set_same spent slot (set (slice_index_or spent slot []) class (spent_by spent slot class + need)) [] within in
+        let here = ap (λ (r : List ℕ). slice_index r k) row in
+        let more = in_row (slice_index_or spent slot []) (spent_by spent slot class) (each slot class) (each slot k) in
+        omega (arith, here, more)
+    | inr past ↦
+        let none : slice_index_or (with_spent spent slot class (spent_by spent slot class + need)) place [] ≡ [] =
+        get_or_past (with_spent spent slot class (spent_by spent slot class + need)) place []
+        (let long = length-set spent slot (set (slice_index_or spent slot []) class (spent_by spent slot class + need)) in omega (arith, long, past, same)) in
+        let here = ap (λ (r : List ℕ). slice_index r k) none in
+        omega (arith, here)
+  ]
   | inr other ↦
       let row = ap (λ (r : List ℕ). slice_index r k) (get_or-set_other spent slot place (set (slice_index_or spent slot []) class (spent_by spent slot class + need)) [] other) in
       let most = each place k in
@@ -105,9 +105,9 @@ spent_more spent slot class need place k bound each = elim (which place slot) [
     in_row : (r : List ℕ) (sum : ℕ) → sum ≤ bound → slice_index r k ≤ bound → slice_index (set r class (sum + need)) k ≤ bound + need
     in_row r sum most other_most = elim (cases_lt class (length r)) [
       | inl within ↦ elim (which k class) [
-          | inl same ↦ let here = ap (λ (n : ℕ). slice_index (set r class (sum + need)) n) same ∙ get_or-set_same r class (sum + need) 0 within in omega (arith, here, most)
-          | inr other ↦ let there = get_or-set_other r class k (sum + need) 0 other in omega (arith, there, other_most)
-        ]
+        | inl same ↦ let here = ap (λ (n : ℕ). slice_index (set r class (sum + need)) n) same ∙ get_or-set_same r class (sum + need) 0 within in omega (arith, here, most)
+        | inr other ↦ let there = get_or-set_other r class k (sum + need) 0 other in omega (arith, there, other_most)
+      ]
       | inr past ↦ let same = ap (λ (xs : List ℕ). slice_index xs k) (set_past r class (sum + need) past) in omega (arith, same, other_most)
     ]
       where

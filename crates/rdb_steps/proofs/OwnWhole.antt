@@ -171,10 +171,15 @@ module _ {P : Type 0} (s : State P) (c : ConnId) (class : ℕ) (whole : IsWhole 
   -- numbers are drawn, and a claim is spent
   pub whole_put : (h : Hand) (plan : Record) (id : ℕ) (header : CellRef) (need : ℕ) (counters : Counters) → h ≡ putting plan id header seat.hand → plan.room ≡ max_plan → need ≤ 1024 →
       counters.serials ≡ s.counters.serials + 1 → counters.ids.items ≡ ids_after s.counters.ids.items w.op →
-      IsWhole (record s { counters = counters; transactions = record s.transactions { registry = record s.transactions.registry {
-        seats = with_hand s.transactions.registry.seats c.slot h;
-        spent = with_spent s.transactions.registry.spent c.slot class (spent_by s.transactions.registry.spent c.slot class + need);
-      } } })
+      IsWhole (record s {
+        counters = counters;
+        transactions = record s.transactions {
+          registry = record s.transactions.registry {
+            seats = with_hand s.transactions.registry.seats c.slot h;
+            spent = with_spent s.transactions.registry.spent c.slot class (spent_by s.transactions.registry.spent c.slot class + need);
+          };
+        };
+      })
   whole_put h plan id header need counters is room small serials ids = record {
     schema = whole.schema;
     served = whole.served;
@@ -207,10 +212,12 @@ module _ {P : Type 0} (s : State P) (c : ConnId) (class : ℕ) (whole : IsWhole 
           ∙ one_planned s.transactions.registry.seats c.slot seat (record seat { hand = h }) at
           (ap (λ (x : Hand). planned_by (record seat { hand = x })) (hand_is h plan id header is) ∙ more plan id header)
 
-      grown : ever_planned (record s.transactions { registry = record s.transactions.registry {
-        seats = with_hand s.transactions.registry.seats c.slot h;
-        spent = with_spent s.transactions.registry.spent c.slot class (spent_by s.transactions.registry.spent c.slot class + need);
-      } }) ≡ ever_planned s.transactions + 1
+      grown : ever_planned (record s.transactions {
+        registry = record s.transactions.registry {
+          seats = with_hand s.transactions.registry.seats c.slot h;
+          spent = with_spent s.transactions.registry.spent c.slot class (spent_by s.transactions.registry.spent c.slot class + need);
+        };
+      }) ≡ ever_planned s.transactions + 1
       grown =
           ap (λ (n : ℕ). MAX_OPERATIONS * length s.transactions.journal.entries + n) sums
           ∙ one_out (MAX_OPERATIONS * length s.transactions.journal.entries) (sum_by planned_in s.transactions.registry.seats)

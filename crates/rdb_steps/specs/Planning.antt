@@ -130,8 +130,10 @@ pub record MakesOwnPlan {P : Type 0} (before after : State P) (c : ConnId) (op :
   pub some : made.pairs ≢ []
   pub transactions :
       after.transactions
-      ≡ record before.transactions { registry = with_hand_of (spending before.transactions.registry c.slot class need) c
-        (putting made (id_to_write before.counters.ids.items op) header) }
+      ≡ record before.transactions {
+        registry = with_hand_of (spending before.transactions.registry c.slot class need) c
+            (putting made (id_to_write before.counters.ids.items op) header);
+      }
   pub serials : after.counters.serials ≡ before.counters.serials + 1
   pub ids : after.counters.ids.items ≡ ids_after before.counters.ids.items op
   pub schema : after.schema ≡ before.schema

@@ -70,7 +70,7 @@ fn putting_row<P: Pages>(
         (claim_in (shape_in store.now new.now.class) (length bytes.now)) }
     ensures leads { (row : List Value) → Encodes (class_in store.now new.now.class).types row bytes.now
         → LeadsToPut (class_in store.now new.now.class) (image_of memory.now) (class_of memory.now) result.1.pairs new.now
-            result.0.number (Some row) }
+        result.0.number (Some row) }
     ensures plan { IsPlanOn new.now.class (image_of memory.now) (class_of memory.now) result.1 }
 {
     let mut overlay = Overlay::over(memory, plan, new.class);

@@ -53,7 +53,14 @@ impl<P: Pages> State<P> {
                 self.transactions.registry.take_latch(c, own.class);
                 self.transactions.registry.sound();
                 let hand = self.transactions.registry.seat_mut(c);
-                lay_drop(hand, &self.store, &self.memory, own.class, own.header, alloc);
+                lay_drop(
+                    hand,
+                    &self.store,
+                    &self.memory,
+                    own.class,
+                    own.header,
+                    alloc,
+                );
                 None
             }
         }

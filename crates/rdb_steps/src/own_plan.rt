@@ -127,9 +127,7 @@ impl<P: Pages> State<P> {
     {
         self.transactions.registry.sound();
         let serial = self.counters.draw_serial();
-        let id = self
-            .counters
-            .id_of(operation_of(self.transactions.seat(c)));
+        let id = self.counters.id_of(operation_of(self.transactions.seat(c)));
         self.transactions.registry.spend(c.slot, class, need);
         let new = version_to_put(self.transactions.seat(c), class, id, serial);
         let alloc = self.transactions.alloc;
