@@ -156,8 +156,8 @@ abbrev pub aimed_at_put : {P : Type 0} → State P → Seat → Transaction → 
 aimed_at_put s seat t op header aimed = with_put aimed (class_named op) (id_to_write s.counters.ids.items op) (tx_of seat t)
     (version_put header.number (s.counters.serials + 1) (tx_of seat t) (with_id op (id_to_write s.counters.ids.items op)))
 
--- whatever versions are settled and aimed at before: an operation's version comes first in its object's chain, where the object that it puts
--- or deletes has one, and the settled ones stay
+-- whatever versions are settled and aimed at before: an operation's version comes first in its object's chain, where the object that it
+-- puts or deletes has one, and the settled ones stay
 abbrev pub KeepsWithPut : {P : Type 0} → State P → State P → ConnId → CellRef → Type 0
 KeepsWithPut before after c header =
     (settled aimed : Versions) → Keeps before settled aimed → WorksAt before c (λ seat work. HasObject aimed work.op
