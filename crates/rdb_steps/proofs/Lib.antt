@@ -45,3 +45,13 @@ pub mod WrittenLemmas
 pub mod FollowLemmas
 pub mod WholeSteps
 pub mod NearLemmas
+pub mod OrderedLemmas
+pub mod DoneChains
+pub mod StampKept
+pub mod StateStamps
+pub mod DebtFalls
+pub mod FreeLemmas
+pub mod RepairWhole
+pub mod RepairLemmas
+pub mod NearDrops
+pub mod StateRepairs

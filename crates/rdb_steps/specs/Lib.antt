@@ -12,3 +12,5 @@ pub mod Steps
 pub mod Rooms
 pub mod LaidPlans
 pub mod Written
+pub mod Stamps
+pub mod Repairs

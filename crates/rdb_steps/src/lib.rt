@@ -5,12 +5,12 @@
 //! | Step              | Function               | Law                                    | Settled                      | Aimed at                     |
 //! |-------------------|------------------------|----------------------------------------|------------------------------|------------------------------|
 //! | a cell of a plan  | `write_work`, `write_drop` | `a_written_cell_leaves_the_lists`  | stay; at last those aimed at | stay                         |
-//! | a pair taken back | `take_newest_back`     | `a_cell_taken_back_leaves_the_settled` | stay                         | no longer spoken of          |
-//! | a stamp           | –                      | `a_stamp_leaves_that_stamp`            | with that stamp              | with that stamp              |
+//! | a pair taken back | `take_newest_back`, `repair_newest` | `a_cell_taken_back_leaves_the_settled` | stay            | no longer spoken of          |
+//! | a stamp           | `stamp_first`          | `a_stamp_leaves_that_stamp`            | with that stamp              | with that stamp              |
 //! | a page            | `grant`                | `cells_that_come_leave_the_lists`      | stay                         | stay                         |
 //! | latches           | –                      | `latches_leave_the_settled`            | stay                         | stay, or no longer spoken of |
 //! | a plan            | –                      | `a_plan_aims_where_it_leads`, and those of `plan_laws` | stay         | where the store's plan leads |
-//! | a plan given up   | –                      | `a_plan_given_up_leaves_the_settled`   | stay                         | no longer spoken of          |
+//! | a plan given up   | `release`              | `a_plan_given_up_leaves_the_settled`   | stay                         | no longer spoken of          |
 //! | a mark            | –                      | `a_mark_settles_what_was_aimed_at`     | those aimed at               | stay                         |
 #![tactic(auto)]
 
@@ -19,7 +19,10 @@ mod grant;
 mod laws;
 mod moves;
 mod plan_laws;
+mod release;
+mod repair;
 mod rooms;
+mod stamp;
 mod state;
 mod take_back;
 mod write;
