@@ -1,22 +1,21 @@
 -- What a change takes of the cells that can be taken, and of the plan, and that it leaves the cells of rows and headers.
-use Rattle.std.proofs.Common.{◌≡◌, ◌≤◌, ◌+◌, ◌⊎◌, ℕ, List, [], ◌∷◌, ◌++◌, length, length-append, Option, Some, inl, inr, refl, sym, ap, ap₂, subst, ◌∙◌, arith}
+use Rattle.std.proofs.Common.{◌≡◌, ◌≤◌, ◌+◌, ◌⊎◌, ℕ, List, [], ◌∷◌, ◌++◌, length, length-append, Option, Some, inl, inr, refl, sym, ap₂, subst, ◌∙◌, arith}
 use Rattle.std.proofs.Permutation.{which}
 use Rattle.rdb_pages.specs.declared.cell.Cell.{Cell}
 use Rattle.rdb_pages.specs.declared.cell.CellRef.{CellRef}
 use Rattle.rdb_pages.specs.Pages.{zero_cell}
 use Rattle.rdb_cells.specs.declared.kind.Kind.TheVariants as kind
 use Rattle.rdb_cells.specs.Images.{Image}
-use Rattle.rdb_cells.specs.Keys.{SameVersionCells, HasNoVersionCell, IsOfVersion}
+use Rattle.rdb_cells.specs.Keys.{HasNoVersionCell}
 use Rattle.rdb_cells.specs.Links.{IsAmong}
 use Rattle.rdb_cells.specs.Records.{first_of}
-use Rattle.rdb_cells.specs.Words.{HasKind, IsOfKind}
+use Rattle.rdb_cells.specs.Words.{HasKind}
 use Rattle.rdb_cells.specs.Work.{Work, reading, IsLeft, TakesAtMost, TakesNone}
 use Rattle.rdb_cells.proofs.LinkLemmas.{among_either, among_front, among_back, once_together}
 use Rattle.rdb_cells.proofs.PlainLemmas.{one_kind}
 use Rattle.rdb_cells.proofs.VersionCellLemmas.{no_version, others_written, itself, further}
 use Rattle.rdb_cells.proofs.WorkLemmas.{put_reads, put_says, put_takes_none, put_longer, none_at_most, at_most_then, lowest_none, lowest_then, took_one, took_lowest, left_blank}
 use Rattle.rdb_rtree.specs.Changes.{with_cell, with_taken, IsLowest, IsAccount}
-use Rattle.rdb_rtree.proofs.NodeLemmas.{one_cell}
 
 pub node_bare : (image : Image) (n : ℕ) → HasKind image kind.RtreeNode n → HasNoVersionCell image n
 node_bare image n has = no_version image kind.RtreeNode n has (λ same. absurd (omega arith)) (λ same. absurd (omega arith))

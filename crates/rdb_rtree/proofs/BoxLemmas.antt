@@ -5,7 +5,7 @@ use Rattle.std.proofs.lemmas.List.{map_more}
 use Rattle.std.specs.Int.{w32, cast_signed, cast_unsigned, int_min, int_max}
 use Rattle.std.specs.Prelude.{FitsSigned}
 use Rattle.rdb_base.specs.declared.value.Rect.{Rect}
-use Rattle.rdb_rtree.specs.Boxes.{LiesIn, Covers, IsLeastCover, Each}
+use Rattle.rdb_rtree.specs.Boxes.{LiesIn, Covers, IsLeastCover}
 
 pub lies_further : (a b c : Rect) → LiesIn a b → LiesIn b c → LiesIn a c
 lies_further a b c first second =

@@ -1,5 +1,5 @@
 -- The tree of an index has become another one: what an index owes of a change.
-use Rattle.std.proofs.Common.{◌≡◌, ◌≤◌, ◌+◌, ◌⊎◌, suc, ℕ, List, [], ◌∷◌, ◌++◌, length, Some, inl, inr, refl, sym, subst, ◌∙◌, arith}
+use Rattle.std.proofs.Common.{◌≡◌, ◌≤◌, ◌+◌, ◌⊎◌, suc, ℕ, List, [], ◌∷◌, ◌++◌, Some, inl, inr, refl, sym, subst, arith}
 use Rattle.std.proofs.lemmas.List.Sorted.{IsPermutation-sym}
 use Rattle.std.specs.Prelude.{IsPermutation}
 use Rattle.rdb_pages.specs.declared.cell.CellRef.{CellRef}
@@ -12,12 +12,12 @@ use Rattle.rdb_cells.specs.Keys.{Meaning, says, IsUnlisted, RestsOnVersions, Lis
 use Rattle.rdb_cells.specs.Links.{IsAmong, AreOf, AreOnce}
 use Rattle.rdb_cells.specs.Records.{content}
 use Rattle.rdb_cells.specs.Words.{HasKind}
-use Rattle.rdb_cells.specs.Work.{Work, reading, IsBlank, IsLeft, TakesAtMost, TakesNone, TakesLowest}
+use Rattle.rdb_cells.specs.Work.{Work, reading, IsBlank, TakesAtMost, TakesNone, TakesLowest}
 use Rattle.rdb_cells.proofs.IndexLemmas.{says_again, fewer_than}
 use Rattle.rdb_cells.proofs.LinkLemmas.{among_or_not}
 use Rattle.rdb_cells.proofs.ListedLemmas.{lists_more, lists_less, lists_in_order}
 use Rattle.rdb_cells.proofs.PlainLemmas.{one_kind}
-use Rattle.rdb_cells.proofs.WorkLemmas.{left_blank, lowest_of}
+use Rattle.rdb_cells.proofs.WorkLemmas.{lowest_of}
 use Rattle.rdb_rtree.specs.Changes.{IsTreeChanged, IsTreePut, IsTreeRemoved}
 use Rattle.rdb_rtree.specs.Nature.{IsRtreeIndex, rtree_nature}
 use Rattle.rdb_rtree.specs.RtreeLaws.{all_nodes, rtree_rests_on_nodes}

@@ -1,7 +1,6 @@
 -- An empty R-tree, with keys that are all one box.
-use Rattle.std.proofs.Common.{◌≡◌, ◌<◌, ◌≤◌, ◌^◌, ℕ, List, [], length, slice_get, Option, Some, IsSome, refl, sym, ap, subst, ◌∙◌, arith, rules}
+use Rattle.std.proofs.Common.{◌≡◌, ◌<◌, ℕ, List, [], Option, Some, IsSome, sym, ap, subst, arith, rules}
 use Rattle.std.specs.List.{Contains}
-use Rattle.std.specs.Option.{option_map_or}
 use Rattle.rdb_base.specs.declared.value.Value.{Value}
 use Rattle.rdb_pages.specs.declared.cell.Cell.{Cell}
 use Rattle.rdb_pages.specs.declared.cell.CellRef.{CellRef}
@@ -9,7 +8,7 @@ use Rattle.rdb_cells.specs.declared.kind.Kind.TheVariants as kind
 use Rattle.rdb_cells.specs.HeadFormat.{index_head_cell, empty_index_head}
 use Rattle.rdb_cells.specs.Images.{Image}
 use Rattle.rdb_cells.specs.Index.{LacksVersion}
-use Rattle.rdb_cells.specs.Keys.{Version, says, text_of}
+use Rattle.rdb_cells.specs.Keys.{Version, says}
 use Rattle.rdb_cells.specs.OneKey.{one_meaning, held_is}
 use Rattle.rdb_cells.specs.Words.{IsOfKind}
 use Rattle.rdb_cells.proofs.KeyLemmas.{held_version}

@@ -1,28 +1,22 @@
 -- A version that comes below a node: into a leaf, or into the tree that was chosen among those below.
-use Rattle.std.proofs.Common.{◌≡◌, ◌≢◌, ◌≤◌, ◌<◌, ◌+◌, ◌-◌, ◌*◌, ◌^◌, ◌++◌, zero, suc, ℕ, List, [], ◌∷◌, length, length-append, map, get_or, inl, inr, refl, sym, ap, subst, ◌∙◌, arith}
+use Rattle.std.proofs.Common.{◌≡◌, ◌≤◌, ◌<◌, ◌+◌, ◌-◌, ◌*◌, ◌^◌, ◌++◌, zero, suc, ℕ, List, [], ◌∷◌, length, length-append, inl, refl, sym, ap, subst, ◌∙◌, arith}
 use Rattle.std.proofs.lemmas.List.{length-map}
-use Rattle.std.specs.List.{flat_map, remove}
-use Rattle.std.specs.Prelude.{IsPermutation}
 use Rattle.rdb_pages.specs.declared.cell.CellRef.{CellRef}
 use Rattle.rdb_cells.specs.declared.kind.Kind.TheVariants as kind
-use Rattle.rdb_cells.specs.Images.{Image}
 use Rattle.rdb_cells.specs.Keys.{Meaning, Sayings}
 use Rattle.rdb_cells.specs.Links.{IsAmong, AreOnce}
 use Rattle.rdb_cells.specs.Words.{HasKind}
-use Rattle.rdb_cells.specs.Work.{Work, reading, IsLeft, HasLeft}
+use Rattle.rdb_cells.specs.Work.{Work, reading, HasLeft}
 use Rattle.rdb_cells.proofs.IndexLemmas.{fewer_than}
-use Rattle.rdb_cells.proofs.LinkLemmas.{among_front, among_back}
 use Rattle.rdb_cells.proofs.WorkLemmas.{one_left}
 use Rattle.rdb_rtree.specs.Boxes.{Each}
-use Rattle.rdb_rtree.specs.Changes.{CanTake, HasPlaces, IsAccount, cells_below, versions_below, entries_above, IsToSettle, AreSettled, IsGrowing, HasGrown}
+use Rattle.rdb_rtree.specs.Changes.{CanTake, HasPlaces, cells_below, versions_below, entries_above, IsToSettle, AreSettled, IsGrowing, HasGrown}
 use Rattle.rdb_rtree.specs.RtreeLaws.{all_nodes, nodes_of_all, all_stand_still}
-use Rattle.rdb_rtree.specs.Standing.{AreSound}
-use Rattle.rdb_rtree.specs.Trees.{Node, RTree, box, cells, versions, entry_of, Stands, HasProperBox, IsShaped, least_entries}
+use Rattle.rdb_rtree.specs.Trees.{Node, RTree, box, entry_of, Stands, IsShaped, least_entries}
 use Rattle.rdb_rtree.specs.declared.entry.Entry.{Entry}
 use Rattle.rdb_rtree.proofs.AccountLemmas.{account_first, account_within, account_then, node_spent, reads_same}
 use Rattle.rdb_rtree.proofs.CountLemmas.{count, count_cons, count_append, count_same, out_count, among_count, count_among, once_count, count_once, listed, listed_cons, listed_append, listed_same, numbers_permute, versions_permute}
-use Rattle.rdb_rtree.proofs.ListLemmas.{each_both, each_front, each_back, taken_at, IsTaken, removed_middle, got_middle, map_both}
-use Rattle.rdb_rtree.proofs.SplitLemmas.{pushed}
+use Rattle.rdb_rtree.proofs.ListLemmas.{each_both, each_front, each_back, map_both}
 use Rattle.rdb_rtree.proofs.WrittenLemmas.{count_both, listed_both}
 
 -- into a leaf

@@ -1,5 +1,5 @@
 -- What is gathered from a tree: its versions, and those whose box meets a rectangle.
-use Rattle.std.proofs.Common.{◌≡◌, ◌≢◌, ◌≤◌, ◌<◌, ◌+◌, ◌-◌, ◌++◌, zero, suc, ℕ, ℤ, List, [], ◌∷◌, length, drop, map, get_or, cond, Option, Some, Bool, true, false, refl, sym, ap, ap₂, subst, ◌∙◌, arith, T, ◌&&◌}
+use Rattle.std.proofs.Common.{◌≡◌, ◌≢◌, ◌≤◌, ◌<◌, ◌+◌, ◌-◌, ◌++◌, zero, suc, ℕ, ℤ, List, [], ◌∷◌, length, drop, map, get_or, cond, Option, Bool, true, false, refl, sym, ap, subst, ◌∙◌, arith, T, ◌&&◌}
 use Rattle.std.proofs.lemmas.Bool.{false≢true}
 use Rattle.std.proofs.lemmas.Int.{ints}
 use Rattle.std.proofs.lemmas.List.{append_assoc, append-nil, drop_all, drop_more, length-map}
@@ -11,15 +11,14 @@ use Rattle.rdb_base.specs.declared.value.Rect.{Rect}
 use Rattle.rdb_pages.specs.declared.cell.CellRef.{CellRef}
 use Rattle.rdb_cells.specs.Images.{Image}
 use Rattle.rdb_cells.specs.Keys.{Meaning, Sayings}
-use Rattle.rdb_rtree.specs.Boxes.{Each, overlaps, lies_in, meets, IsProper, LiesIn, Covers, IsLeastCover}
+use Rattle.rdb_rtree.specs.Boxes.{Each, overlaps, meets, IsProper, LiesIn, Covers}
 use Rattle.rdb_rtree.specs.Changes.{entries_above}
 use Rattle.rdb_rtree.specs.Lookups.{is_found, found_in, matching}
-use Rattle.rdb_rtree.specs.Standing.{IsEntryAt, IsTreeAt, IsKeyedAt}
-use Rattle.rdb_rtree.specs.Trees.{Node, RTree, place, versions, box, box_at, no_box, entry_of, HasProperBox, Stands, IsShaped, least_entries}
+use Rattle.rdb_rtree.specs.Standing.{IsTreeAt, IsKeyedAt}
+use Rattle.rdb_rtree.specs.Trees.{Node, RTree, place, versions, box, no_box, entry_of, HasProperBox, Stands, IsShaped, least_entries}
 use Rattle.rdb_rtree.specs.declared.entry.Entry.{Entry}
 use Rattle.rdb_rtree.proofs.BoxLemmas.{lies_further, lies_itself}
 use Rattle.rdb_rtree.proofs.ListLemmas.{taken_at, got_middle, each_back, each_both, map_both}
-use Rattle.rdb_rtree.proofs.NodeLemmas.{IsBelow}
 
 pub on_ok : {A E : Type 0} (r : Result A E) (P Q : Type 0) → (P → Q) → OnOk r P → OnOk r Q
 on_ok (Ok a) P Q so p = so p

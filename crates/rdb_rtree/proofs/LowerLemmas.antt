@@ -1,5 +1,5 @@
 -- The root of a tree is written with what is left to it, or the head leads to the only node that is left, or to none.
-use Rattle.std.proofs.Common.{◌≡◌, ◌≢◌, ◌≤◌, ◌<◌, ◌++◌, zero, suc, ℕ, List, [], ◌∷◌, length, map, Some, inl, inr, refl, sym, ap, subst, ◌∙◌, arith}
+use Rattle.std.proofs.Common.{◌≡◌, ◌≢◌, ◌≤◌, ◌<◌, zero, suc, ℕ, List, [], ◌∷◌, length, Some, inl, inr, refl, sym, subst, ◌∙◌, arith}
 use Rattle.std.proofs.lemmas.List.{append-nil}
 use Rattle.std.proofs.lemmas.List.Sorted.{IsPermutation-refl}
 use Rattle.std.specs.Prelude.{IsPermutation}
@@ -12,10 +12,9 @@ use Rattle.rdb_cells.specs.Links.{IsAmong}
 use Rattle.rdb_cells.specs.Words.{HasKind, no_ref}
 use Rattle.rdb_cells.specs.Work.{Work, reading}
 use Rattle.rdb_cells.proofs.WorkLemmas.{put_reads}
-use Rattle.rdb_rtree.specs.Boxes.{Each}
 use Rattle.rdb_rtree.specs.Changes.{cell_of, with_cell, IsAccount, cells_below, versions_below, entries_above, first_place, IsToLower, IsLowered}
 use Rattle.rdb_rtree.specs.RtreeLaws.{all_stand_still, nodes_of_all}
-use Rattle.rdb_rtree.specs.Trees.{Node, RTree, cells, versions, Stands, IsShaped, least_entries, Tree, Empty, Rooted, root_entries}
+use Rattle.rdb_rtree.specs.Trees.{RTree, cells, versions, Empty, Rooted, root_entries}
 use Rattle.rdb_rtree.specs.declared.entry.Entry.{Entry}
 use Rattle.rdb_rtree.proofs.AccountLemmas.{node_bare, head_bare, zero_bare, node_spent, head_spent, account_put, account_within, account_then}
 use Rattle.rdb_rtree.proofs.RootLemmas.{not_head}

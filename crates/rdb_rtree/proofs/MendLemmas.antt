@@ -1,19 +1,16 @@
 -- A node written with the trees that are left below it, alone or together with one of those beside it.
-use Rattle.std.proofs.Common.{◌≡◌, ◌≢◌, ◌≤◌, ◌<◌, ◌+◌, ◌++◌, suc, ℕ, List, [], ◌∷◌, length, length-append, map, Some, inl, inr, refl, sym, ap, subst, ◌∙◌, arith}
+use Rattle.std.proofs.Common.{◌≡◌, ◌≢◌, ◌≤◌, ◌+◌, ◌++◌, suc, ℕ, List, [], ◌∷◌, length, length-append, inl, inr, refl, sym, ap, subst, ◌∙◌, arith}
 use Rattle.std.proofs.lemmas.List.{length-map}
-use Rattle.std.specs.Prelude.{IsPermutation}
 use Rattle.rdb_pages.specs.declared.cell.CellRef.{CellRef}
-use Rattle.rdb_cells.specs.declared.kind.Kind.TheVariants as kind
 use Rattle.rdb_cells.specs.Keys.{Meaning, Sayings}
 use Rattle.rdb_cells.specs.Links.{IsAmong, AreOnce}
-use Rattle.rdb_cells.specs.Words.{HasKind}
 use Rattle.rdb_cells.specs.Work.{Work, reading}
 use Rattle.rdb_cells.proofs.WorkLemmas.{put_reads}
 use Rattle.rdb_rtree.specs.Boxes.{Each}
 use Rattle.rdb_rtree.specs.Changes.{cell_of, with_cell, cells_below, versions_below, entries_above, IsToMend, IsMended, IsToShare, AreShared}
 use Rattle.rdb_rtree.specs.RtreeLaws.{all_stand_still, all_nodes}
 use Rattle.rdb_rtree.specs.Standing.{IsKeyedAt}
-use Rattle.rdb_rtree.specs.Trees.{Node, RTree, box, place, cells, versions, entry_of, Stands, IsShaped, least_entries}
+use Rattle.rdb_rtree.specs.Trees.{RTree, box, place, entry_of, Stands, IsShaped, least_entries}
 use Rattle.rdb_rtree.specs.declared.entry.Entry.{Entry}
 use Rattle.rdb_rtree.proofs.AccountLemmas.{node_bare, node_spent, account_put, account_within, reads_same}
 use Rattle.rdb_rtree.proofs.ChosenLemmas.{IsPick}

@@ -1,7 +1,7 @@
 -- The node of a tree, as it is read from its cell and written to it.
-use Rattle.std.proofs.Common.{◌≡◌, ◌≢◌, ◌≤◌, ◌<◌, ◌+◌, ◌-◌, ◌++◌, zero, suc, ℕ, List, [], ◌∷◌, length, length-append, take, drop, map, get_or, Option, Some, None, IsSome, refl, sym, ap, ap₂, subst, ◌∙◌, arith, rules, inl, inr}
+use Rattle.std.proofs.Common.{◌≡◌, ◌≢◌, ◌≤◌, ◌<◌, ◌+◌, ◌-◌, ◌++◌, zero, suc, ℕ, List, [], ◌∷◌, length, take, drop, map, get_or, Option, Some, None, IsSome, refl, sym, ap, ap₂, subst, ◌∙◌, arith, rules, inl, inr}
 use Rattle.std.proofs.Permutation.{which}
-use Rattle.std.proofs.lemmas.List.{take_at, append_assoc, set_at, map_more, take_more, drop_more, length-map, length-replicate}
+use Rattle.std.proofs.lemmas.List.{take_at, append_assoc, set_at, map_more, take_more, drop_more, length-map}
 use Rattle.std.specs.Option.{option_and_then}
 use Rattle.std.specs.Prelude.{replicate, set, unwrap_or}
 use Rattle.rdb_base.specs.declared.value.Rect.{Rect}
@@ -10,7 +10,7 @@ use Rattle.rdb_pages.specs.declared.cell.CellRef.{CellRef}
 use Rattle.rdb_cells.specs.declared.formats.rtree.RtreeNode.{RtreeNode}
 use Rattle.rdb_cells.specs.Images.{Image, IsCell}
 use Rattle.rdb_cells.specs.Keys.{Version, Meaning, Sayings, HasBox, ForVersion, box_of}
-use Rattle.rdb_cells.specs.RtreeFormat.{IsRtreeNode, rtree_node_cell, rtree_node_in}
+use Rattle.rdb_cells.specs.RtreeFormat.{rtree_node_cell, rtree_node_in}
 use Rattle.rdb_cells.specs.Words.{no_ref}
 use Rattle.rdb_cells.specs.Work.{Work, reading}
 use Rattle.rdb_cells.proofs.FormatLemmas.{rtree_node_back}
@@ -18,7 +18,7 @@ use Rattle.rdb_cells.proofs.WorkLemmas.{put_reads}
 use Rattle.rdb_rtree.specs.Boxes.{Each}
 use Rattle.rdb_rtree.specs.Changes.{with_cell, entries_above}
 use Rattle.rdb_rtree.specs.Standing.{IsEntryAt, IsTreeAt, IsKeyedAt}
-use Rattle.rdb_rtree.specs.Trees.{Node, RTree, place, box, box_at, no_box, entry_of, node_with, node_of, IsNodeAt, Stands, HasProperBox, IsShaped, least_entries}
+use Rattle.rdb_rtree.specs.Trees.{Node, RTree, place, box, box_at, no_box, entry_of, node_with, node_of, IsNodeAt, Stands, IsShaped, least_entries}
 use Rattle.rdb_rtree.specs.declared.entry.Entry.{Entry}
 use Rattle.rdb_rtree.proofs.ListLemmas.{taken_at, got_middle, each_back, map_both}
 

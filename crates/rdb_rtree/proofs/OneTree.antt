@@ -1,6 +1,5 @@
 -- What a head leads to is one tree: in one image no two trees have one root.
-use Rattle.std.proofs.Common.{◌≡◌, ◌≢◌, zero, suc, ℕ, List, [], ◌∷◌, take, map, length, slice_get, Some, inl, refl, sym, ap, ap₂, subst, ◌∙◌, arith}
-use Rattle.rdb_base.specs.declared.value.Rect.{Rect}
+use Rattle.std.proofs.Common.{◌≡◌, zero, suc, ℕ, List, [], ◌∷◌, take, map, slice_get, inl, refl, sym, ap, ap₂, subst, ◌∙◌, arith}
 use Rattle.rdb_pages.specs.declared.cell.CellRef.{CellRef}
 use Rattle.rdb_cells.specs.declared.formats.heads.IndexHead.{IndexHead}
 use Rattle.rdb_cells.specs.declared.formats.rtree.RtreeNode.{RtreeNode}

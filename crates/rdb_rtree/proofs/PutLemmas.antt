@@ -1,10 +1,9 @@
 -- A put into the tree of an index: what holds at its root.
-use Rattle.std.proofs.Common.{◌≡◌, ◌≢◌, ◌≤◌, ◌<◌, ◌+◌, ◌*◌, zero, suc, ℕ, List, [], ◌∷◌, length, map, Some, inl, refl, sym, ap, subst, ◌∙◌, arith}
+use Rattle.std.proofs.Common.{◌≡◌, ◌≢◌, ◌≤◌, ◌+◌, zero, suc, ℕ, List, [], ◌∷◌, length, Some, inl, refl, sym, ap, subst, ◌∙◌, arith}
 use Rattle.std.proofs.lemmas.List.{length-map}
 use Rattle.rdb_pages.specs.declared.cell.CellRef.{CellRef}
 use Rattle.rdb_cells.specs.declared.formats.rtree.RtreeNode.{RtreeNode}
 use Rattle.rdb_cells.specs.HeadFormat.{index_head_cell, rooted_head}
-use Rattle.rdb_cells.specs.Images.{Image}
 use Rattle.rdb_cells.specs.Keys.{Meaning, Sayings, says}
 use Rattle.rdb_cells.specs.Links.{IsAmong, AreOnce}
 use Rattle.rdb_cells.specs.Work.{Work, reading, HasLeft}
@@ -12,7 +11,7 @@ use Rattle.rdb_cells.proofs.IndexLemmas.{fewer_than}
 use Rattle.rdb_cells.proofs.WorkLemmas.{one_left}
 use Rattle.rdb_rtree.specs.Changes.{CanTake, HasPlaces, IsGrowing, HasGrown, IsPlanted, IsTreePut}
 use Rattle.rdb_rtree.specs.Nature.{IsRtreeIndex}
-use Rattle.rdb_rtree.specs.Trees.{Node, RTree, box, cells, entry_of, HasProperBox, IsNodeAt, node_of, Stands, IsShaped, Tree, Empty, Rooted, root_of, versions_of, cells_of, TreeStands, IsRtree, root_entries}
+use Rattle.rdb_rtree.specs.Trees.{Node, RTree, box, entry_of, HasProperBox, IsNodeAt, node_of, Tree, Empty, Rooted, root_of, cells_of, TreeStands, IsRtree, root_entries}
 use Rattle.rdb_rtree.specs.declared.entry.Entry.{Entry}
 use Rattle.rdb_rtree.proofs.RootLemmas.{put_first}
 use Rattle.rdb_rtree.proofs.WholeLemmas.{low_root}

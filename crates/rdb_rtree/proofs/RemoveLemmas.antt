@@ -1,8 +1,7 @@
 -- A removal from the tree of an index: what holds at its root, and what it comes to.
-use Rattle.std.proofs.Common.{◌≡◌, ◌≢◌, ◌≤◌, ◌<◌, ◌+◌, ◌*◌, ◌++◌, zero, suc, ℕ, List, [], ◌∷◌, length, map, Some, inl, inr, refl, sym, ap, subst, ◌∙◌, arith}
+use Rattle.std.proofs.Common.{◌≡◌, ◌≢◌, ◌≤◌, ◌<◌, ◌+◌, ◌*◌, ◌++◌, zero, suc, ℕ, List, [], ◌∷◌, Some, inl, inr, refl, sym, ap, subst, ◌∙◌, arith}
 use Rattle.std.proofs.lemmas.List.{length-map}
 use Rattle.std.specs.List.{Contains}
-use Rattle.rdb_base.specs.declared.value.Rect.{Rect}
 use Rattle.rdb_pages.specs.declared.cell.CellRef.{CellRef}
 use Rattle.rdb_pages.specs.Pages.{zero_cell}
 use Rattle.rdb_cells.specs.declared.kind.Kind.TheVariants as kind
@@ -15,15 +14,14 @@ use Rattle.rdb_cells.specs.RtreeFormat.{rtree_node_cell}
 use Rattle.rdb_cells.specs.Words.{HasKind}
 use Rattle.rdb_cells.specs.Work.{Work, reading}
 use Rattle.rdb_cells.proofs.LinkLemmas.{among_either}
-use Rattle.rdb_rtree.specs.Boxes.{Each}
 use Rattle.rdb_rtree.specs.Changes.{HasPlaces, cells_below, versions_below, AreOthers, IsShrinking, HasShrunk, IsToLower, IsLowered, IsTreeRemoved}
 use Rattle.rdb_rtree.specs.Nature.{IsRtreeIndex}
 use Rattle.rdb_rtree.specs.RtreeLaws.{all_nodes, nodes_of_all}
-use Rattle.rdb_rtree.specs.Trees.{Node, RTree, box, place, cells, versions, entry_of, HasProperBox, IsNodeAt, node_of, Stands, IsShaped, Tree, Empty, Rooted, root_of, versions_of, cells_of, TreeStands, IsRtree, root_entries}
+use Rattle.rdb_rtree.specs.Trees.{Node, RTree, box, place, versions, entry_of, HasProperBox, IsNodeAt, node_of, Stands, Tree, Empty, Rooted, root_of, versions_of, cells_of, TreeStands, IsRtree, root_entries}
 use Rattle.rdb_rtree.specs.declared.entry.Entry.{Entry}
 use Rattle.rdb_rtree.proofs.AccountLemmas.{account_within, account_then, reads_same}
 use Rattle.rdb_rtree.proofs.ChosenLemmas.{low_level}
-use Rattle.rdb_rtree.proofs.CountLemmas.{count, count_cons, count_append, count_same, among_count, count_among, once_count, listed, listed_cons, listed_same, numbers_permute, versions_permute}
+use Rattle.rdb_rtree.proofs.CountLemmas.{count, count_cons, count_append, count_same, among_count, count_among, listed_cons, listed_same, numbers_permute, versions_permute}
 use Rattle.rdb_rtree.proofs.LookupLemmas.{HasBoxIn, versions_lie}
 use Rattle.rdb_rtree.proofs.NodeLemmas.{cell_there}
 use Rattle.rdb_rtree.proofs.RootLemmas.{not_head}

@@ -1,33 +1,33 @@
 -- A new root, and what a put into the tree of a head comes to.
-use Rattle.std.proofs.Common.{◌≡◌, ◌≢◌, ◌≤◌, ◌<◌, ◌+◌, ◌*◌, ◌^◌, ◌++◌, zero, suc, ℕ, List, [], ◌∷◌, length, length-append, map, Option, Some, None, IsSome, inl, inr, refl, sym, ap, subst, ◌∙◌, arith, rules}
-use Rattle.std.proofs.lemmas.List.{append-nil, length-map}
-use Rattle.std.proofs.lemmas.List.Sorted.{IsPermutation-refl, IsPermutation-trans}
+use Rattle.std.proofs.Common.{◌≡◌, ◌≢◌, ◌≤◌, ◌<◌, ◌+◌, ◌*◌, ◌++◌, zero, suc, ℕ, List, [], ◌∷◌, length, length-append, Option, Some, None, IsSome, inl, inr, refl, sym, ap, subst, ◌∙◌, arith, rules}
+use Rattle.std.proofs.lemmas.List.{length-map}
+use Rattle.std.proofs.lemmas.List.Sorted.{IsPermutation-refl}
 use Rattle.std.proofs.lemmas.Bool.{false≢true}
 use Rattle.std.specs.Option.{option_and_then}
-use Rattle.std.specs.Prelude.{unwrap_or, IsPermutation}
+use Rattle.std.specs.Prelude.{unwrap_or}
 use Rattle.rdb_base.specs.declared.value.Rect.{Rect}
 use Rattle.rdb_pages.specs.declared.cell.Cell.{Cell}
 use Rattle.rdb_pages.specs.declared.cell.CellRef.{CellRef}
 use Rattle.rdb_pages.specs.Pages.{zero_cell}
 use Rattle.rdb_cells.specs.declared.kind.Kind.TheVariants as kind
 use Rattle.rdb_cells.specs.HeadFormat.{index_head_cell, rooted_head}
-use Rattle.rdb_cells.specs.Images.{Image, IsCell}
+use Rattle.rdb_cells.specs.Images.{Image}
 use Rattle.rdb_cells.specs.Keys.{Version, Meaning, Sayings, says, HasBox, ForVersion, box_of}
-use Rattle.rdb_cells.specs.Links.{IsAmong, AreOnce}
+use Rattle.rdb_cells.specs.Links.{IsAmong}
 use Rattle.rdb_cells.specs.Words.{HasKind}
-use Rattle.rdb_cells.specs.Work.{Work, reading, IsLeft, HasLeft}
+use Rattle.rdb_cells.specs.Work.{Work, reading, HasLeft}
 use Rattle.rdb_cells.proofs.IndexLemmas.{fewer_than}
 use Rattle.rdb_cells.proofs.PlainLemmas.{one_kind}
 use Rattle.rdb_cells.proofs.WorkLemmas.{put_reads, left_blank, one_left}
 use Rattle.rdb_rtree.specs.Boxes.{Each}
-use Rattle.rdb_rtree.specs.Changes.{cell_of, with_cell, with_taken, CanTake, HasPlaces, IsAccount, AreGone, cells_below, versions_below, entries_above, IsPlanted, IsToSettle, AreSettled, IsGrowing, HasGrown, IsTreeChanged, IsTreePut}
-use Rattle.rdb_rtree.specs.Nature.{IsRtreeIndex, IsBoxKey}
-use Rattle.rdb_rtree.specs.RtreeLaws.{all_stand_still, still_stands, nodes_of_all, all_nodes}
-use Rattle.rdb_rtree.specs.Trees.{Node, RTree, box, box_at, no_box, cells, versions, entry_of, Stands, HasProperBox, IsShaped, least_entries, Tree, Empty, Rooted, root_of, versions_of, cells_of, TreeStands, IsRtree, root_entries}
+use Rattle.rdb_rtree.specs.Changes.{cell_of, with_cell, with_taken, CanTake, HasPlaces, IsAccount, cells_below, versions_below, entries_above, IsPlanted, IsToSettle, AreSettled, IsGrowing, HasGrown, IsTreePut}
+use Rattle.rdb_rtree.specs.Nature.{IsBoxKey}
+use Rattle.rdb_rtree.specs.RtreeLaws.{all_stand_still, nodes_of_all, all_nodes}
+use Rattle.rdb_rtree.specs.Trees.{Node, RTree, box, box_at, no_box, cells, versions, entry_of, Stands, HasProperBox, IsShaped, least_entries, Empty, Rooted, root_entries}
 use Rattle.rdb_rtree.specs.declared.entry.Entry.{Entry}
 use Rattle.rdb_rtree.proofs.AccountLemmas.{node_bare, head_bare, node_spent, head_spent, account_put, account_take, account_within, account_then, reads_same}
-use Rattle.rdb_rtree.proofs.CountLemmas.{count, count_cons, count_append, count_same, out_count, among_count, count_among, once_count, listed, listed_cons, listed_append, listed_same, numbers_permute, versions_permute}
-use Rattle.rdb_rtree.proofs.NodeLemmas.{some_box, cell_there}
+use Rattle.rdb_rtree.proofs.CountLemmas.{count, count_cons, count_append, count_same, out_count, among_count, listed, listed_append, listed_same, numbers_permute, versions_permute}
+use Rattle.rdb_rtree.proofs.NodeLemmas.{some_box}
 use Rattle.rdb_rtree.proofs.WrittenLemmas.{written_stands, written_shaped, written_kind}
 
 -- the box of a version that has one

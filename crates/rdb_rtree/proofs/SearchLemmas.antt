@@ -1,5 +1,5 @@
 -- The search for a version that is to go: the place of an entry, what no box shows, and the trees below a node one after another.
-use Rattle.std.proofs.Common.{◌≡◌, ◌≢◌, ◌<◌, ◌≤◌, ◌-◌, ◌+◌, ◌*◌, ◌++◌, ◌&&◌, zero, suc, ℕ, ℤ, List, [], ◌∷◌, length, drop, map, get_or, cond, Option, Some, None, Bool, true, false, not, refl, sym, ap, subst, ◌∙◌, arith, ltb}
+use Rattle.std.proofs.Common.{◌≡◌, ◌≢◌, ◌<◌, ◌≤◌, ◌-◌, ◌+◌, ◌*◌, ◌++◌, ◌&&◌, zero, suc, ℕ, List, [], ◌∷◌, length, drop, map, get_or, cond, Option, Some, None, Bool, true, false, not, refl, sym, ap, subst, ◌∙◌, arith, ltb}
 use Rattle.std.proofs.lemmas.Bool.{false≢true, ltb-true, ltb-false}
 use Rattle.std.proofs.lemmas.List.{drop_all, drop_more, length-map}
 use Rattle.std.specs.List.{flat_map, remove, prefix_len, position_or_len, Contains}
@@ -11,10 +11,10 @@ use Rattle.rdb_cells.specs.Images.{Image}
 use Rattle.rdb_cells.specs.Keys.{Meaning, Sayings, RestsOnVersions}
 use Rattle.rdb_cells.specs.Work.{Work, reading}
 use Rattle.rdb_rtree.specs.Boxes.{Each, lies_in, LiesIn}
-use Rattle.rdb_rtree.specs.Changes.{HasPlaces, versions_below, entries_above, AreOthers, AreElsewhere, IsWithout, IsShrinking, HasShrunk, IsToMend, IsMended}
-use Rattle.rdb_rtree.specs.Trees.{Node, RTree, box, box_at, no_box, versions, entry_of, HasProperBox, Stands, IsShaped, least_entries}
+use Rattle.rdb_rtree.specs.Changes.{HasPlaces, versions_below, entries_above, AreOthers, AreElsewhere, IsShrinking, HasShrunk, IsToMend, IsMended}
+use Rattle.rdb_rtree.specs.Trees.{Node, RTree, box, box_at, no_box, versions, entry_of, IsShaped, least_entries}
 use Rattle.rdb_rtree.specs.declared.entry.Entry.{Entry}
-use Rattle.rdb_rtree.proofs.ChosenLemmas.{IsPick, pick}
+use Rattle.rdb_rtree.proofs.ChosenLemmas.{pick}
 use Rattle.rdb_rtree.proofs.ListLemmas.{taken_at, got_middle, map_both, each_both}
 use Rattle.rdb_rtree.proofs.LookupLemmas.{HasBoxIn, all_lie, versions_lie, true_both, true_le}
 use Rattle.rdb_rtree.proofs.ShrinkLemmas.{child_shrinking, child_mends, mid_room, shrunk_inner}

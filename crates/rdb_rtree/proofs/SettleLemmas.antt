@@ -1,28 +1,25 @@
 -- A node written above trees, or two where they are too many for one.
-use Rattle.std.proofs.Common.{◌≡◌, ◌≢◌, ◌≤◌, ◌<◌, ◌+◌, ◌++◌, ◌^◌, suc, ℕ, List, [], ◌∷◌, length, map, Some, inl, inr, refl, sym, ap, subst, ◌∙◌, arith}
+use Rattle.std.proofs.Common.{◌≡◌, ◌≢◌, ◌≤◌, ◌<◌, ◌++◌, ℕ, List, [], ◌∷◌, length, map, Some, inl, refl, sym, ap, subst, ◌∙◌, arith}
 use Rattle.std.proofs.lemmas.List.{append-nil, length-map}
 use Rattle.std.proofs.lemmas.List.Sorted.{IsPermutation-refl}
 use Rattle.std.specs.Prelude.{IsPermutation}
-use Rattle.rdb_base.specs.declared.value.Rect.{Rect}
-use Rattle.rdb_pages.specs.declared.cell.Cell.{Cell}
 use Rattle.rdb_pages.specs.declared.cell.CellRef.{CellRef}
 use Rattle.rdb_pages.specs.Pages.{zero_cell}
 use Rattle.rdb_cells.specs.declared.kind.Kind.TheVariants as kind
-use Rattle.rdb_cells.specs.Images.{Image}
 use Rattle.rdb_cells.specs.Keys.{Sayings}
 use Rattle.rdb_cells.specs.Links.{IsAmong}
 use Rattle.rdb_cells.specs.RtreeFormat.{IsRtreeNode}
 use Rattle.rdb_cells.specs.Words.{HasKind}
-use Rattle.rdb_cells.specs.Work.{Work, reading, IsLeft}
+use Rattle.rdb_cells.specs.Work.{Work, reading}
 use Rattle.rdb_cells.proofs.PlainLemmas.{one_kind}
 use Rattle.rdb_cells.proofs.WorkLemmas.{put_reads, left_blank}
-use Rattle.rdb_rtree.specs.Boxes.{Each, IsLeastCover}
-use Rattle.rdb_rtree.specs.Changes.{cell_of, with_cell, with_taken, IsLowest, IsAccount, cells_below, versions_below, entries_above, IsToSettle, AreSettled}
+use Rattle.rdb_rtree.specs.Boxes.{IsLeastCover}
+use Rattle.rdb_rtree.specs.Changes.{cell_of, with_cell, with_taken, IsLowest, cells_below, versions_below, IsToSettle, AreSettled}
 use Rattle.rdb_rtree.specs.RtreeLaws.{all_stand_still, nodes_of_all}
-use Rattle.rdb_rtree.specs.Trees.{Node, RTree, cells, versions, entry_of, node_with, Stands, IsShaped, least_entries}
+use Rattle.rdb_rtree.specs.Trees.{RTree, entry_of, node_with, Stands, IsShaped, least_entries}
 use Rattle.rdb_rtree.specs.declared.entry.Entry.{Entry}
 use Rattle.rdb_rtree.proofs.AccountLemmas.{node_bare, node_spent, account_put, account_take, account_within, account_then}
-use Rattle.rdb_rtree.proofs.CountLemmas.{count, count_cons, count_append, listed, listed_append, numbers_permute, versions_permute}
+use Rattle.rdb_rtree.proofs.CountLemmas.{count_cons, count_append, listed_append, numbers_permute, versions_permute}
 use Rattle.rdb_rtree.proofs.ListLemmas.{each_permutes, each_front, each_back, parted, ArePartsOf}
 use Rattle.rdb_rtree.proofs.WrittenLemmas.{written_stands, written_shaped, written_kind, count_both, listed_both, count_ordered, listed_ordered, in_first, in_second}
 

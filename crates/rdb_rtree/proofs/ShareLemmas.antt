@@ -1,5 +1,5 @@
 -- The trees of two nodes written below one, and the other cell given back; or below two again.
-use Rattle.std.proofs.Common.{◌≡◌, ◌≢◌, ◌≤◌, ◌<◌, ◌+◌, ◌++◌, suc, ℕ, List, [], ◌∷◌, length, map, Some, inl, inr, refl, sym, ap, subst, ◌∙◌, arith}
+use Rattle.std.proofs.Common.{◌≡◌, ◌≢◌, ◌≤◌, ◌++◌, ℕ, List, [], ◌∷◌, length, Some, inl, inr, refl, sym, ap, subst, ◌∙◌, arith}
 use Rattle.std.proofs.lemmas.List.{append-nil, length-map}
 use Rattle.std.proofs.lemmas.List.Sorted.{IsPermutation-refl}
 use Rattle.std.specs.Prelude.{IsPermutation}
@@ -12,13 +12,12 @@ use Rattle.rdb_cells.specs.Links.{IsAmong}
 use Rattle.rdb_cells.specs.Words.{HasKind}
 use Rattle.rdb_cells.specs.Work.{Work, reading}
 use Rattle.rdb_cells.proofs.WorkLemmas.{put_reads}
-use Rattle.rdb_rtree.specs.Boxes.{Each}
-use Rattle.rdb_rtree.specs.Changes.{cell_of, with_cell, IsAccount, cells_below, versions_below, entries_above, IsToShare, AreShared}
+use Rattle.rdb_rtree.specs.Changes.{cell_of, with_cell, cells_below, versions_below, IsToShare, AreShared}
 use Rattle.rdb_rtree.specs.RtreeLaws.{all_stand_still}
 use Rattle.rdb_rtree.specs.Trees.{RTree, entry_of, Stands, IsShaped, least_entries}
 use Rattle.rdb_rtree.specs.declared.entry.Entry.{Entry}
 use Rattle.rdb_rtree.proofs.AccountLemmas.{node_bare, zero_bare, node_spent, account_put, account_then}
-use Rattle.rdb_rtree.proofs.CountLemmas.{count, count_cons, count_append, listed, listed_append, numbers_permute, versions_permute}
+use Rattle.rdb_rtree.proofs.CountLemmas.{count_cons, count_append, listed_append, numbers_permute, versions_permute}
 use Rattle.rdb_rtree.proofs.ListLemmas.{each_permutes, each_front, each_back, parted, ArePartsOf}
 use Rattle.rdb_rtree.proofs.SettleLemmas.{IsWritten}
 use Rattle.rdb_rtree.proofs.WrittenLemmas.{written_stands, written_shaped, written_kind, count_both, listed_both, count_ordered, listed_ordered, in_first, in_second}

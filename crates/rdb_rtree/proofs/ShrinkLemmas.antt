@@ -1,26 +1,21 @@
 -- A version that goes from below a node: out of a leaf, or out of the tree that was found among those below.
-use Rattle.std.proofs.Common.{◌≡◌, ◌≢◌, ◌≤◌, ◌<◌, ◌+◌, ◌-◌, ◌*◌, ◌^◌, ◌++◌, zero, suc, ℕ, List, [], ◌∷◌, length, length-append, map, Some, inl, inr, refl, sym, ap, subst, ◌∙◌, arith}
+use Rattle.std.proofs.Common.{◌≡◌, ◌≤◌, ◌+◌, ◌-◌, ◌*◌, ◌++◌, zero, suc, ℕ, List, [], ◌∷◌, length, length-append, Some, inl, inr, refl, sym, ap, subst, ◌∙◌, arith}
 use Rattle.std.proofs.lemmas.List.{length-map}
-use Rattle.std.proofs.lemmas.List.Sorted.{IsPermutation-refl}
-use Rattle.std.specs.List.{flat_map, remove}
-use Rattle.std.specs.Prelude.{IsPermutation}
 use Rattle.rdb_pages.specs.declared.cell.CellRef.{CellRef}
 use Rattle.rdb_pages.specs.Pages.{zero_cell}
 use Rattle.rdb_cells.specs.declared.kind.Kind.TheVariants as kind
-use Rattle.rdb_cells.specs.Images.{Image}
 use Rattle.rdb_cells.specs.Keys.{Meaning, Sayings, RestsOnVersions}
 use Rattle.rdb_cells.specs.Links.{IsAmong, AreOnce}
 use Rattle.rdb_cells.specs.Words.{HasKind}
 use Rattle.rdb_cells.specs.Work.{Work, reading}
 use Rattle.rdb_cells.proofs.LinkLemmas.{among_either}
 use Rattle.rdb_rtree.specs.Boxes.{Each}
-use Rattle.rdb_rtree.specs.Changes.{HasPlaces, IsAccount, AreGone, cells_below, versions_below, entries_above, IsShrinking, HasShrunk, IsToMend, IsMended, IsWithout}
-use Rattle.rdb_rtree.specs.RtreeLaws.{all_nodes, nodes_of_all, all_stand_still}
-use Rattle.rdb_rtree.specs.Standing.{AreSound}
-use Rattle.rdb_rtree.specs.Trees.{Node, RTree, box, place, cells, versions, entry_of, Stands, IsShaped, least_entries}
+use Rattle.rdb_rtree.specs.Changes.{HasPlaces, cells_below, versions_below, entries_above, IsShrinking, HasShrunk, IsToMend, IsMended, IsWithout}
+use Rattle.rdb_rtree.specs.RtreeLaws.{all_nodes, all_stand_still}
+use Rattle.rdb_rtree.specs.Trees.{Node, RTree, box, place, entry_of, Stands, IsShaped, least_entries}
 use Rattle.rdb_rtree.specs.declared.entry.Entry.{Entry}
 use Rattle.rdb_rtree.proofs.AccountLemmas.{account_first, account_within, account_then, reads_same}
-use Rattle.rdb_rtree.proofs.ChosenLemmas.{IsPick, pick}
+use Rattle.rdb_rtree.proofs.ChosenLemmas.{pick}
 use Rattle.rdb_rtree.proofs.CountLemmas.{count, count_cons, count_append, count_same, among_count, count_among, once_count, count_once, listed, listed_cons, listed_append, listed_same, numbers_permute, versions_permute}
 use Rattle.rdb_rtree.proofs.ListLemmas.{each_both, each_front, each_back}
 use Rattle.rdb_rtree.proofs.WrittenLemmas.{count_both, listed_both}

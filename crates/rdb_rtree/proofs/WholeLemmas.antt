@@ -1,5 +1,5 @@
 -- The tree that a head leads to, or none, and how high it is at most.
-use Rattle.std.proofs.Common.{◌≡◌, ◌≢◌, ◌≤◌, ◌<◌, ◌+◌, ◌*◌, ◌^◌, zero, suc, ℕ, List, [], ◌∷◌, length, length-append, map, slice_get, Option, Some, inl, inr, refl, sym, ap, subst, ◌∙◌, arith}
+use Rattle.std.proofs.Common.{◌≡◌, ◌≢◌, ◌≤◌, ◌<◌, ◌*◌, ◌^◌, zero, suc, ℕ, List, [], ◌∷◌, length, length-append, slice_get, Option, Some, inl, inr, refl, sym, ap, subst, ◌∙◌, arith}
 use Rattle.std.proofs.Math.Nat.{mul-le-mul_left, pow-le-pow_right, pow-suc}
 use Rattle.std.proofs.lemmas.Bool.{cases_lt}
 use Rattle.std.proofs.lemmas.List.{length-map}
@@ -11,7 +11,7 @@ use Rattle.rdb_cells.specs.declared.formats.heads.IndexHead.{IndexHead}
 use Rattle.rdb_cells.specs.declared.formats.rtree.RtreeNode.{RtreeNode}
 use Rattle.rdb_cells.specs.HeadFormat.{index_head_cell, index_head_in, rooted_head}
 use Rattle.rdb_cells.specs.Images.{Image}
-use Rattle.rdb_cells.specs.Keys.{Meaning, Sayings, says}
+use Rattle.rdb_cells.specs.Keys.{Meaning, Sayings}
 use Rattle.rdb_cells.specs.Links.{IsAmong, AreOnce}
 use Rattle.rdb_cells.specs.References.{IsPageCell}
 use Rattle.rdb_cells.proofs.FormatLemmas.{index_head_back}
@@ -20,7 +20,7 @@ use Rattle.rdb_rtree.specs.Boxes.{Each}
 use Rattle.rdb_rtree.specs.Nature.{IsRtreeIndex}
 use Rattle.rdb_rtree.specs.Standing.{IsTreeAt, IsKeyedAt}
 use Rattle.rdb_rtree.specs.Trees.{Node, RTree, box, cells, versions, versions_of, cells_of, root_of, Tree, Empty, Rooted, node_of, IsNodeAt, Stands, IsShaped, TreeStands, IsRtree, least_entries, root_entries}
-use Rattle.rdb_rtree.proofs.NodeLemmas.{one_cell, tree_node}
+use Rattle.rdb_rtree.proofs.NodeLemmas.{one_cell}
 
 pub root_read : (image : Image) (head : ℕ) (root r : CellRef) (cell : Cell) → image head ≡ Some (index_head_cell (rooted_head root)) → image head ≡ Some cell → slice_get (index_head_in cell).roots 0 ≡ Some r → root ≡ r
 root_read image head root r cell leads here read =

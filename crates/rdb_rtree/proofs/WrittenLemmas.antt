@@ -15,9 +15,9 @@ use Rattle.rdb_cells.specs.Words.{HasKind}
 use Rattle.rdb_rtree.specs.Boxes.{Each, IsLeastCover}
 use Rattle.rdb_rtree.specs.Changes.{cell_of, cells_below, versions_below, entries_above}
 use Rattle.rdb_rtree.specs.RtreeLaws.{node_kind}
-use Rattle.rdb_rtree.specs.Trees.{Node, RTree, place, box, cells, versions, node_with, Stands, IsShaped, least_entries}
+use Rattle.rdb_rtree.specs.Trees.{RTree, place, box, cells, versions, node_with, Stands, IsShaped, least_entries}
 use Rattle.rdb_rtree.specs.declared.entry.Entry.{Entry}
-use Rattle.rdb_rtree.proofs.CountLemmas.{count, count_append, count_among, among_count, listed, listed_append, flat_times, times}
+use Rattle.rdb_rtree.proofs.CountLemmas.{count, count_append, count_among, among_count, listed, listed_append, flat_times}
 use Rattle.rdb_rtree.proofs.NodeLemmas.{places_of, covers_of}
 
 module _ (said : Sayings) (level h : ℕ) (ts : List (RTree h)) (entries : List Entry) (cover : Rect) (low : level ≡ h) (are : entries ≡ entries_above said h ts) where

@@ -1,5 +1,5 @@
-use Rattle.std.proofs.Common.{◌≡◌, ◌∷◌, [], subst, rules}
-use Rattle.std.specs.Int.{w32, cast_signed, cast_unsigned, int_min, int_max}
+use Rattle.std.proofs.Common.{◌∷◌, [], subst, rules}
+use Rattle.std.specs.Int.{w32}
 use Rattle.std.specs.Prelude.{FitsSigned}
 use Rattle.rdb_base.specs.declared.value.Rect.{Rect}
 use Rattle.rdb_rtree.specs.Boxes.{IsLeastCover}

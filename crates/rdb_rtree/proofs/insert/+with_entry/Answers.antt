@@ -1,5 +1,4 @@
-use Rattle.std.proofs.Common.{◌≡◌, ◌<◌, ◌-◌, ◌*◌, ℕ, List, length, sym, ap, ◌∙◌, arith}
-use Rattle.rdb_cells.specs.Keys.{Sayings}
+use Rattle.std.proofs.Common.{◌-◌, length, ap, arith}
 use Rattle.rdb_cells.specs.Work.{work, reading}
 use Rattle.rdb_cells.proofs.IndexLemmas.{fewer_than}
 use Rattle.rdb_rtree.specs.declared.entry.Entry.{Entry}

@@ -1,8 +1,7 @@
-use Rattle.std.proofs.Common.{◌≡◌, ◌≤◌, ◌+◌, ◌*◌, [], ◌∷◌, List, ℕ, length, refl, sym, ap, subst, ◌∙◌, arith}
+use Rattle.std.proofs.Common.{◌+◌, List, length, sym, ap, subst, ◌∙◌, arith}
 use borrow.Author.Tests.{eqb-true, eqb-false}
-use Rattle.rdb_pages.specs.declared.cell.CellRef.{CellRef}
 use Rattle.rdb_cells.specs.Keys.{says}
-use Rattle.rdb_cells.specs.Work.{Work, work, reading}
+use Rattle.rdb_cells.specs.Work.{work, reading}
 use Rattle.rdb_cells.proofs.IndexLemmas.{fewer_than}
 use Rattle.rdb_cells.proofs.WorkLemmas.{one_left}
 use Rattle.rdb_rtree.specs.Changes.{AreSettled, IsPlanted, IsTreePut}

@@ -1,4 +1,4 @@
-use Rattle.std.proofs.Common.{◌≡◌, ◌<◌, ◌++◌, ◌∷◌, [], List, length, refl, sym, ap, subst, ◌∙◌, arith}
+use Rattle.std.proofs.Common.{◌++◌, ◌∷◌, [], List, refl, sym, ap, subst, ◌∙◌, arith}
 use Rattle.rdb_cells.specs.Work.{Work, work}
 use Rattle.rdb_cells.proofs.WorkLemmas.{take_is}
 use Rattle.rdb_rtree.specs.Changes.{with_cell, with_taken, cell_of, AreSettled}

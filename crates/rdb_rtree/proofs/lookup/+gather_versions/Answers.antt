@@ -1,11 +1,11 @@
-use Rattle.std.proofs.Common.{◌≡◌, ◌+◌, ◌-◌, ◌++◌, ℕ, suc, List, length, drop, map, refl, sym, ap, ◌∙◌, arith}
+use Rattle.std.proofs.Common.{◌≡◌, ◌+◌, ◌++◌, ℕ, suc, List, length, drop, refl, sym, ap, ◌∙◌, arith}
 use Rattle.std.proofs.lemmas.List.{length-map}
 use Rattle.std.specs.List.{flat_map}
 use Rattle.rdb_pages.specs.declared.cell.CellRef.{CellRef}
 use Rattle.rdb_rtree.specs.Standing.{IsTreeAt}
 use Rattle.rdb_rtree.specs.Trees.{Node, RTree, place, versions}
 use Rattle.rdb_rtree.proofs.LookupLemmas.{on_ok, leaf_versions, child_at, gather_step, gather_end}
-use Rattle.rdb_rtree.proofs.NodeLemmas.{tree_few, tree_refs, tree_cell}
+use Rattle.rdb_rtree.proofs.NodeLemmas.{tree_few, tree_refs}
 use Rattle.rdb_rtree.proofs.lookup.+gather_versions.Goals as goal
 
 pub refs_of-own-requires : goal.refs_of-own-requires

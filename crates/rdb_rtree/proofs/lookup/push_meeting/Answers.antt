@@ -1,6 +1,5 @@
-use Rattle.std.proofs.Common.{◌≡◌, ◌++◌, ◌∷◌, [], List, Bool, get_or, cond, refl, sym, ap, ◌∙◌}
+use Rattle.std.proofs.Common.{◌++◌, [], List, refl, sym, ap, ◌∙◌}
 use Rattle.std.proofs.lemmas.List.{append-nil}
-use Rattle.rdb_base.specs.declared.value.Rect.{Rect}
 use Rattle.rdb_pages.specs.declared.cell.CellRef.{CellRef}
 use Rattle.rdb_rtree.specs.Lookups.{matching}
 use Rattle.rdb_rtree.proofs.LookupLemmas.{meeting_step, gather_step, gather_end}

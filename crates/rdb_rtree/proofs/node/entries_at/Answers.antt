@@ -1,8 +1,8 @@
-use Rattle.std.proofs.Common.{◌≡◌, ◌+◌, ◌∷◌, [], ℕ, List, length, map, take, get_or, sym, ap, ◌∙◌, arith}
+use Rattle.std.proofs.Common.{◌+◌, ℕ, length, get_or, sym, ap, ◌∙◌, arith}
 use Rattle.std.proofs.lemmas.List.{length-map, take_all}
 use Rattle.rdb_pages.specs.declared.cell.CellRef.{CellRef}
 use Rattle.rdb_rtree.specs.Changes.{entries_above}
-use Rattle.rdb_rtree.specs.Trees.{place, RTree}
+use Rattle.rdb_rtree.specs.Trees.{place}
 use Rattle.rdb_rtree.specs.declared.entry.Entry.{Entry}
 use Rattle.rdb_rtree.proofs.NodeLemmas.{tree_few, tree_refs, tree_node, below_at, read_one}
 use Rattle.rdb_rtree.proofs.SplitLemmas.{pushed}

@@ -1,5 +1,5 @@
-use Rattle.std.proofs.Common.{◌≡◌, ◌≤◌, ◌<◌, ◌+◌, ◌-◌, ◌*◌, ◌++◌, ℕ, suc, List, length, drop, get_or, refl, sym, ap, subst, ◌∙◌, arith}
-use Rattle.std.specs.List.{flat_map, remove}
+use Rattle.std.proofs.Common.{◌≡◌, ◌<◌, ◌+◌, ◌-◌, ◌*◌, ℕ, suc, List, length, drop, refl, sym, ap, subst, ◌∙◌, arith}
+use Rattle.std.specs.List.{remove}
 use Rattle.std.specs.Prelude.{pos}
 use Rattle.rdb_cells.specs.Keys.{Sayings}
 use Rattle.rdb_cells.specs.Work.{Work, work, reading}
@@ -7,7 +7,7 @@ use Rattle.rdb_rtree.specs.Changes.{HasPlaces, versions_below, AreOthers, AreEls
 use Rattle.rdb_rtree.specs.Trees.{Node, RTree, versions}
 use Rattle.rdb_rtree.specs.declared.entry.Entry.{Entry}
 use Rattle.rdb_rtree.proofs.ChosenLemmas.{as_many}
-use Rattle.rdb_rtree.proofs.SearchLemmas.{some_also, none_also, some_at, none_at, leaf_others, outside_node, step_others, end_others, losing_child, losing_mends, losing_room, losing_shrunk}
+use Rattle.rdb_rtree.proofs.SearchLemmas.{some_also, none_also, leaf_others, outside_node, step_others, end_others, losing_child, losing_mends, losing_room, losing_shrunk}
 use Rattle.rdb_rtree.proofs.ShrinkLemmas.{shrunk_leaf}
 use Rattle.rdb_rtree.proofs.remove.+without_entry.Goals as goal
 

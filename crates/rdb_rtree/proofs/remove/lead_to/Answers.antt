@@ -1,7 +1,7 @@
-use Rattle.std.proofs.Common.{◌≡◌, ap, ◌∙◌}
+use Rattle.std.proofs.Common.{ap, ◌∙◌}
 use Rattle.rdb_pages.specs.Pages.{zero_cell}
 use Rattle.rdb_pages.specs.declared.cell.Cell.{Cell}
-use Rattle.rdb_cells.specs.HeadFormat.{index_head_cell, rooted_head}
+use Rattle.rdb_cells.specs.HeadFormat.{index_head_cell}
 use Rattle.rdb_cells.specs.Work.{Work, work}
 use Rattle.rdb_rtree.specs.Changes.{with_cell}
 use Rattle.rdb_rtree.proofs.remove.lead_to.Goals as goal

@@ -1,4 +1,4 @@
-use Rattle.std.proofs.Common.{◌≡◌, sym, ap}
+use Rattle.std.proofs.Common.{sym, ap}
 use Rattle.rdb_rtree.specs.Trees.{root_entries}
 use Rattle.rdb_rtree.proofs.LowerLemmas.{least_above}
 use Rattle.rdb_rtree.proofs.remove.least_of_root.Goals as goal

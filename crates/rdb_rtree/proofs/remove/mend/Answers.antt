@@ -1,6 +1,6 @@
-use Rattle.std.proofs.Common.{◌≡◌, ◌≤◌, ◌<◌, ◌+◌, ◌++◌, suc, List, length, sym, ap, subst, ◌∙◌, arith}
+use Rattle.std.proofs.Common.{◌++◌, suc, List, length, sym, ap, subst, ◌∙◌, arith}
 use Rattle.rdb_cells.specs.Work.{Work, work, reading}
-use Rattle.rdb_rtree.specs.Changes.{with_cell, cell_of, entries_above, IsMended}
+use Rattle.rdb_rtree.specs.Changes.{with_cell, cell_of, IsMended}
 use Rattle.rdb_rtree.specs.declared.entry.Entry.{Entry}
 use Rattle.rdb_rtree.proofs.ChosenLemmas.{pick, few_entries}
 use Rattle.rdb_rtree.proofs.MendLemmas.{mended_alone, mended_shared, sibling_keyed, both_share}

@@ -1,12 +1,10 @@
-use Rattle.std.proofs.Common.{◌≡◌, ◌≤◌, ◌+◌, ◌*◌, ℕ, refl, sym, ap, subst, ◌∙◌, arith}
-use Rattle.rdb_pages.specs.declared.cell.CellRef.{CellRef}
-use Rattle.rdb_cells.specs.Keys.{Sayings, says}
-use Rattle.rdb_cells.specs.Work.{Work, work, reading}
-use Rattle.rdb_rtree.specs.Changes.{HasPlaces, versions_below, IsShrinking, HasShrunk}
-use Rattle.rdb_rtree.specs.Trees.{Node, RTree, root_of}
+use Rattle.std.proofs.Common.{refl, arith}
+use Rattle.rdb_cells.specs.Keys.{says}
+use Rattle.rdb_cells.specs.Work.{work, reading}
+use Rattle.rdb_rtree.specs.Changes.{versions_below}
+use Rattle.rdb_rtree.specs.Trees.{root_of}
 use Rattle.rdb_rtree.proofs.RemoveLemmas.{top_is, top_low, listed_boxed, root_cell, root_lowers, root_room, removed_whole, not_lacking, listed_below}
 use Rattle.rdb_rtree.proofs.RootLemmas.{proper_box, proper_entry}
-use Rattle.rdb_rtree.proofs.SearchLemmas.{some_at, none_at}
 use Rattle.rdb_rtree.proofs.WholeLemmas.{root_read}
 use Rattle.rdb_rtree.proofs.remove.remove.Goals as goal
 

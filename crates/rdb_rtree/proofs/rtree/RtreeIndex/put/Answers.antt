@@ -1,4 +1,4 @@
-use Rattle.std.proofs.Common.{◌≡◌, [], length, inr, refl, arith}
+use Rattle.std.proofs.Common.{[], length, inr, refl, arith}
 use Rattle.rdb_cells.specs.Keys.{says}
 use Rattle.rdb_cells.specs.Work.{work, reading}
 use Rattle.rdb_rtree.proofs.ChangedLemmas.{own_alone, puts, takes_more}
