@@ -4,3 +4,4 @@ pub mod EventLemmas
 pub mod ClosingLemmas
 pub mod ComesLemmas
 pub mod CommitLemmas
+pub mod LookLemmas

@@ -5,8 +5,10 @@
 
 mod closing;
 mod events;
+mod looks;
 mod sessions;
 
 pub use closing::{commit, roll_back};
 pub use events::{poll, watch};
+pub use looks::{phase, standing};
 pub use sessions::{begin, condemn, connect, disconnect};
