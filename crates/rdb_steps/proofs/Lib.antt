@@ -29,6 +29,7 @@ pub mod WithoutLemmas
 pub mod MarkLemmas
 pub mod BeginLemmas
 pub mod DroppingLemmas
+pub mod LaidLemmas
 pub mod WholeLemmas
 pub mod PageLemmas
 pub mod HandKept
@@ -55,3 +56,13 @@ pub mod RepairWhole
 pub mod RepairLemmas
 pub mod NearDrops
 pub mod StateRepairs
+pub mod ClassHolds
+pub mod PlacesLemmas
+pub mod DuePlans
+pub mod OwnDropPlans
+pub mod OwnDropSteps
+pub mod ClaimLemmas
+pub mod DrawnLemmas
+pub mod OwnPlans
+pub mod OwnWhole
+pub mod OwnSteps

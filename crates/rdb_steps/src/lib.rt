@@ -9,15 +9,19 @@
 //! | a stamp           | `stamp_first`          | `a_stamp_leaves_that_stamp`            | with that stamp              | with that stamp              |
 //! | a page            | `grant`                | `cells_that_come_leave_the_lists`      | stay                         | stay                         |
 //! | latches           | –                      | `latches_leave_the_settled`            | stay                         | stay, or no longer spoken of |
-//! | a plan            | –                      | `a_plan_aims_where_it_leads`, and those of `plan_laws` | stay         | where the store's plan leads |
+//! | a plan            | `plan_operation`, `plan_drop`, `plan_own_drop` | `a_plan_aims_where_it_leads`, and those of `plan_laws` | stay | where the store's plan leads |
 //! | a plan given up   | `release`              | `a_plan_given_up_leaves_the_settled`   | stay                         | no longer spoken of          |
 //! | a mark            | –                      | `a_mark_settles_what_was_aimed_at`     | those aimed at               | stay                         |
 #![tactic(auto)]
 
+mod drop_plan;
 mod finish;
 mod grant;
 mod laws;
+mod laying;
 mod moves;
+mod own_drop;
+mod own_plan;
 mod plan_laws;
 mod release;
 mod repair;
