@@ -81,7 +81,7 @@ repair_less cells own few some = omega (arith, few, some)
 -- what is left of a repair, by its parts
 abbrev repair_by : Bool → Bool → ℕ → Bool → ℕ → ℕ → ℕ → ℕ
 repair_by marked dropping undo written latches own plan =
-    cond marked (own + 1 + cond (latches == 0) 0 1) (cond dropping (plan + (own - version_steps) + 2) (cond (not (undo == 0)) (undo + own + 1) (cond (not written || not (latches == 0)) (own + 2) (own + 1))))
+    cond marked (own + 1 + cond (latches == 0) 0 1) (cond dropping (plan + (own - version_steps) + 2) (cond (not (undo == 0)) (undo + own + 2) (cond (not written || not (latches == 0)) (own + 2) (own + 1))))
 
 module _ {P : Type 0} (s : State P) (c : ConnId) (whole : IsWhole s) (seat : Seat) (held : seat_of s.transactions.registry.seats c ≡ Some seat) (due : IsToDrop seat) (settled aimed : Versions) (kept : Keeps s settled aimed)
     (own : OwnWrite) (first : slice_get seat.hand.own.items 0 ≡ Some own) where
