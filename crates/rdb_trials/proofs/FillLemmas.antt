@@ -2,7 +2,7 @@
 use Rattle.std.proofs.Common.{◌≡◌, ◌<◌, ◌≤◌, ◌+◌, ◌++◌, zero, suc, ℕ, List, [], ◌∷◌, take, drop, slice_get, get_or, length, Option, Some, IsSome, inl, inr, refl, sym, ap, subst, ◌∙◌, arith}
 use Rattle.std.proofs.lemmas.List.{take_all}
 use Rattle.std.proofs.lemmas.List.Sorted.{IsPermutation-middle, IsPermutation-trans, IsPermutation-sym, IsPermutation-append_comm, Contains-permutation}
-use Rattle.std.proofs.lemmas.Option.{slice_get-get_or}
+use Rattle.std.proofs.lemmas.Option.{slice_get-get_or, slice_get_within, get_or_from_slice_get}
 use Rattle.std.specs.List.{Contains}
 use Rattle.std.specs.Option.{option_map_or}
 use Rattle.std.specs.Prelude.{IsPermutation}
@@ -20,7 +20,7 @@ use Rattle.rdb_cells.specs.VersionFormat.{header_in}
 use Rattle.rdb_cells.specs.Words.{IsOfKind}
 use Rattle.rdb_cells.proofs.IndexLemmas.{says_again}
 use Rattle.rdb_cells.proofs.ListedLemmas.{contains_either, lists_more, lists_less, lists_in_order}
-use Rattle.rdb_trials.specs.Filled.{IsFilled, AreBelow}
+use Rattle.rdb_trials.specs.Filled.{TakesEach, IsFilled, AreBelow}
 use Rattle.rdb_trials.specs.KeyTable.{table_meaning, version_by, version_with}
 use Rattle.rdb_trials.specs.Kept.{IsKept, Lacks}
 use Rattle.rdb_trials.proofs.KeptLemmas.{alike_permuted}
@@ -66,18 +66,19 @@ lists_next said xs place x at lists =
     lists_back said behind (x ∷ before) (lists_in_order said (before ++ x ∷ behind) (behind ++ x ∷ before) turned round)
 
 module _ (index : Nature) (keys : Meaning) where
-  pub next_lacks : (image : Image) (versions : List CellRef) (place : ℕ) (version : CellRef) → ((key : List Value) → index.Takes key) → slice_get versions place ≡ Some version → IsFilled index keys image versions (take place versions) → Lacks index keys image (take place versions) version
-  next_lacks image versions place version takes at filled = record {
+  pub next_lacks : (image : Image) (versions : List CellRef) (place : ℕ) (version : CellRef) → slice_get versions place ≡ Some version → IsFilled index keys image versions (take place versions) → Lacks index keys image (take place versions) version
+  next_lacks image versions place version at filled = record {
     kept = filled.kept;
     versions = lists_next (says keys image) versions place version at filled.fit;
-    taken = λ v is. takes v.key;
+    taken = filled.taken version (place, slice_get_within versions place version at, get_or_from_slice_get versions place version version at);
   }
 
   -- an index that lists nothing, and one that lists all
-  pub filled_none : (image : Image) (versions : List CellRef) → Lists index keys image [] [] → ListsVersions (says keys image) versions → IsFilled index keys image versions []
-  filled_none image versions lists fit = record {
+  pub filled_none : (image : Image) (versions : List CellRef) → Lists index keys image [] [] → ListsVersions (says keys image) versions → TakesEach index keys image versions → IsFilled index keys image versions []
+  filled_none image versions lists fit taken = record {
     kept = record { listed = []; nodes = []; lists = lists; alike = λ r. refl };
     fit = fit;
+    taken = taken;
   }
 
   pub filled_whole : (image : Image) (versions : List CellRef) (many : ℕ) → length versions ≤ many → IsFilled index keys image versions (take many versions) → IsFilled index keys image versions versions
@@ -94,12 +95,16 @@ module _ (index : Nature) (keys : Meaning) where
   versions_again : (before after : Image) (versions : List CellRef) → RestsOnVersions keys → SameVersionCells before after → ListsVersions (says keys before) versions → ListsVersions (says keys after) versions
   versions_again before after versions rests same lists = lists_again (says keys before) (says keys after) versions (says_again keys before after rests same versions) lists
 
+  taken_again : (before after : Image) (versions : List CellRef) → RestsOnVersions keys → SameVersionCells before after → TakesEach index keys before versions → TakesEach index keys after versions
+  taken_again before after versions rests same taken r within v is = taken r within v (rests before after same r.number ∙ is)
+
   pub filled_more : (before after : Image) (versions : List CellRef) (place : ℕ) (version : CellRef) → RestsOnVersions keys → SameVersionCells before after → slice_get versions place ≡ Some version → IsFilled index keys before versions (take place versions) → IsKept index keys after (version ∷ take place versions) → IsFilled index keys after versions (take (place + 1) versions)
   filled_more before after versions place version rests same at filled kept =
       let next : suc place ≡ place + 1 = omega arith in
       subst (λ (n : ℕ). IsFilled index keys after versions (take n versions)) next (record {
         kept = kept_in_order after (version ∷ take place versions) (take (suc place) versions) (next_order versions place version at) kept;
         fit = versions_again before after versions rests same filled.fit;
+        taken = taken_again before after versions rests same filled.taken;
       })
 
   pub kept_here : (image : Image) (versions : List CellRef) (place : ℕ) (version : CellRef) → slice_get versions place ≡ Some version → IsFilled index keys image versions (drop place versions) → IsKept index keys image (version ∷ drop (place + 1) versions)
@@ -111,6 +116,7 @@ module _ (index : Nature) (keys : Meaning) where
   filled_less before after versions place rests same filled kept = record {
     kept = kept;
     fit = versions_again before after versions rests same filled.fit;
+    taken = taken_again before after versions rests same filled.taken;
   }
 
 module _ (said : Sayings) where

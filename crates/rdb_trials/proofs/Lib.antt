@@ -1,5 +1,6 @@
 mod FillLemmas
 mod FreeCells
 mod KeptLemmas
+mod RtreeKeys
 mod TreePlaces
 mod Writing

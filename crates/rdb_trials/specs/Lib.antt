@@ -1,3 +1,4 @@
+pub mod BoxKeys
 pub mod Filled
 pub mod KeyTable
 pub mod Kept

@@ -1,6 +1,5 @@
 //! Versions put into an index and taken out of it one after another, for tests. What the tests' cells hold is found out here.
 ghost use Rattle.std.specs.Prelude.{◌≡◌, ◌↔◌, ◌<◌, ◌≤◌, [], ◌∷◌, ℕ, List, length, take, drop, slice_get, Some, IsTrue};
-ghost use Rattle.rdb_base.specs.declared.value.Value.{Value};
 ghost use Rattle.rdb_pages.specs.declared.cell.CellRef.{CellRef as RefValue};
 ghost use Rattle.rdb_cells.specs.HeadFormat.{index_head_cell, empty_index_head};
 ghost use Rattle.rdb_cells.specs.Keys.{ListsVersions, says};
@@ -58,7 +57,6 @@ pub(crate) fn put_some<I: Index, C: Region, K: Keys>(
 ) -> Plan
     requires class { claim.class ≡ (I.nature index.now).class }
     requires part { claim.cells ≡ (I.nature index.now).part }
-    requires takes { (key : List Value) → (I.nature index.now).Takes key }
     requires places { (places.0 ≤ places.1) × (places.1 ≤ length versions.now) }
     requires plan { plan ≡ empty_plan }
     requires filled { IsFilled (I.nature index.now) (K.meaning keys.now) (C.Cells.image cells.old) versions.now

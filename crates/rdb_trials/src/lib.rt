@@ -8,6 +8,8 @@ mod filling;
 mod hash_tests;
 pub mod key_table;
 #[cfg(test)]
+mod rtree_tests;
+#[cfg(test)]
 mod tree_tests;
 mod trial;
 #[cfg(test)]

@@ -10,7 +10,7 @@ use crate::filling::{Claim, checked, empty_head_at, put_some, take_some};
 use crate::key_table::KeyTable;
 use crate::trial::PLACES;
 use crate::world::{
-    ALL_CELLS, CLASS, Coming, Entry, Fields, LOOKED_UP, Plot, VERSIONS, cells_with, entries,
+    ALL_CELLS, CLASS, Coming, Entry, Fields, LOOKED_UP, Plot, VERSIONS, cells_with, entries, free_cells,
     key_of, next_stop, same_versions, sorted, table, versions_of, with_key,
 };
 use rdb_base::list::NoMemory;
@@ -18,7 +18,7 @@ use rdb_base::operation::Place;
 use rdb_base::steps::Steps;
 use rdb_cells::doubles::memory::MemoryCells;
 use rdb_cells::{
-    Cells, Index, IndexHead, Keys, NONE, Plan, TREE_CHILDREN, TREE_PART, TreeNode, is_zero,
+    Cells, Index, IndexHead, Keys, NONE, Plan, TREE_CHILDREN, TREE_PART, TreeNode,
 };
 use rdb_pages::CellRef;
 use rdb_tree::Tree;
@@ -70,21 +70,6 @@ fn part_at(rt: &impl Abort, cells: &MemoryCells, at: CellRef, least: usize, leve
         part.versions = part.versions.saturating_add(below.versions);
     }
     part
-}
-
-/// How many cells are free.
-fn free_cells(rt: &impl Abort, cells: &MemoryCells) -> usize {
-    let mut count = 0usize;
-    for place in 0..ALL_CELLS {
-        let at = CellRef {
-            number: place as u32 + 1,
-        };
-        assert!(rt; cells.holds(at), "no cell {}", at.number);
-        if is_zero(cells.read(at)) {
-            count = count.saturating_add(1);
-        }
-    }
-    count
 }
 
 /// Checks the shape of a tree of so many versions, and that every cell is a header, a node or free.

@@ -8,7 +8,7 @@ use rdb_base::order::order_rows;
 use rdb_base::text::Text;
 use rdb_base::value::{Leaf, Row, Value};
 use rdb_cells::doubles::memory::MemoryCells;
-use rdb_cells::{Cells, IndexHead, NONE, Region, VersionHeader, index_head};
+use rdb_cells::{Cells, IndexHead, NONE, Region, VersionHeader, index_head, is_zero};
 use rdb_pages::{Cell, CellRef};
 use std::alloc::Global;
 use std::cell::Cell as Counter;
@@ -171,6 +171,21 @@ pub(crate) fn cells_with(
     let head = index_head(CLASS, 0);
     set(rt, &mut cells, head, IndexHead::empty().to_cell());
     Ok(cells)
+}
+
+/// How many cells are free.
+pub(crate) fn free_cells(rt: &impl Abort, cells: &MemoryCells) -> usize {
+    let mut count = 0usize;
+    for place in 0..ALL_CELLS {
+        let at = CellRef {
+            number: place as u32 + 1,
+        };
+        assert!(rt; cells.holds(at), "no cell {}", at.number);
+        if is_zero(cells.read(at)) {
+            count = count.saturating_add(1);
+        }
+    }
+    count
 }
 
 /// The versions' references.

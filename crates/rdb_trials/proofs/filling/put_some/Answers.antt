@@ -7,7 +7,7 @@ use Rattle.rdb_trials.proofs.filling.put_some.Goals as goal
 pub put_version-plan-requires-clause-lacks : goal.put_version-plan-requires-clause-lacks
 put_version-plan-requires-clause-lacks g c = (
   take c.loop-place.place c.args.versions.now,
-  next_lacks (g.I.Index.nature c.args.index.now) (g.K.Keys.meaning c.args.keys.now) (g.C.Cells.image c.loop-place.cells) c.args.versions.now c.loop-place.place c.version_at-version.result c.requires.takes c.version_at-version.ensures c.loop-place.invariant.1,
+  next_lacks (g.I.Index.nature c.args.index.now) (g.K.Keys.meaning c.args.keys.now) (g.C.Cells.image c.loop-place.cells) c.args.versions.now c.loop-place.place c.version_at-version.result c.version_at-version.ensures c.loop-place.invariant.1,
 )
 
 pub put_version-plan-requires-clause-free : goal.put_version-plan-requires-clause-free
@@ -18,7 +18,7 @@ pub loop-place-preserved : goal.loop-place-preserved
 loop-place-preserved g c =
     let before = g.C.Cells.image c.loop-place.cells in
     let after = g.C.Cells.image c.put_version-plan.new.cells in
-    let lacks = next_lacks (g.I.Index.nature c.args.index.now) (g.K.Keys.meaning c.args.keys.now) before c.args.versions.now c.loop-place.place c.version_at-version.result c.requires.takes c.version_at-version.ensures c.loop-place.invariant.1 in (
+    let lacks = next_lacks (g.I.Index.nature c.args.index.now) (g.K.Keys.meaning c.args.keys.now) before c.args.versions.now c.loop-place.place c.version_at-version.result c.version_at-version.ensures c.loop-place.invariant.1 in (
       c.put_version-plan.ensures.plan,
       filled_more (g.I.Index.nature c.args.index.now) (g.K.Keys.meaning c.args.keys.now) before after c.args.versions.now c.loop-place.place c.version_at-version.result
           (g.met.K.Keys.rests_on_versions c.args.keys.now) c.put_version-plan.ensures.versions c.version_at-version.ensures c.loop-place.invariant.1
