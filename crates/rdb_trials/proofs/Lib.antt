@@ -1,4 +1,4 @@
-mod FillLemmas
+pub mod FillLemmas
 mod FreeCells
 mod KeptLemmas
 mod TreePlaces

@@ -13,9 +13,6 @@ loop-from-init g c =
     let empty = tree_starts_empty c.args.tree.now.class c.args.tree.now.head.number (says (table_meaning c.args.keys.now.rows) image) image c.empty_head_at.ensures in
     (c.in_ok-plan.ensures, filled_none (tree_nature c.args.tree.now.class c.args.tree.now.head.number) (table_meaning c.args.keys.now.rows) image c.args.versions.now empty c.checked.ensures, omega arith)
 
-pub put_counted-plan-requires-clause-takes : goal.put_counted-plan-requires-clause-takes
-put_counted-plan-requires-clause-takes g c = λ key. tt
-
 pub put_counted-plan-requires-clause-places : goal.put_counted-plan-requires-clause-places
 put_counted-plan-requires-clause-places g c = let above = c.next_stop-to.ensures.above in (omega arith, c.next_stop-to.ensures.within)
 
