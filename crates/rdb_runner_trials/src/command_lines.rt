@@ -1,5 +1,8 @@
 //! Command lines, each with what it asks for, by the definition and as clap reads it.
 
+ghost use Rattle.std.specs.Prelude.{map, string_bytes};
+ghost use Rattle.rdb_runner.specs.CommandLine.{IsCommandLine, command_of};
+
 use rdb_base::list::NoMemory;
 use rdb_runner::command_line::{CommandLine, read, tested};
 use std::alloc::Global;
@@ -184,19 +187,35 @@ fn told(alloc: Global, line: &CommandLine<'_>) -> Result<String, NoMemory> {
     }
 }
 
-/// What these words ask for, in one line, or `none`. Clap reads the same.
+/// A command line in one line, which clap reads as the same.
+fn told_again(
+    rt: &impl Abort,
+    alloc: Global,
+    words: &[String],
+    line: &CommandLine<'_>,
+) -> Result<String, NoMemory>
+    requires meant { IsCommandLine (map string_bytes words.now) (command_of line.now) }
+{
+    let again = read(alloc, words)?;
+    assert!(rt; again == *line);
+    told(alloc, line)
+}
+
+/// What these words ask for, in one line, or `none`.
+fn asked_by(rt: &impl Abort, alloc: Global, words: &[String]) -> Result<String, NoMemory> {
+    match tested(words) {
+        Some(line) => told_again(rt, alloc, words, &line),
+        None => String::from_str(alloc, "none"),
+    }
+}
+
+/// What the words of these texts ask for, in one line, or `none`.
 fn asked(rt: &impl Abort, alloc: Global, texts: &[&str]) -> Result<String, NoMemory> {
     let mut words = Vec::new(alloc);
     for text in texts {
         words.push(String::from_str(alloc, text)?)?;
     }
-    match tested(&words) {
-        Some(line) => {
-            assert!(rt; read(alloc, &words)? == line, "{texts:?}");
-            told(alloc, &line)
-        }
-        None => String::from_str(alloc, "none"),
-    }
+    asked_by(rt, alloc, words.as_slice())
 }
 
 #[test]
