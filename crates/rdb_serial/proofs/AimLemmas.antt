@@ -1,19 +1,13 @@
 -- What is aimed at changes in classes of one connection: what stays so of all others.
-use Rattle.std.proofs.Common.{◌≡◌, ◌≢◌, ◌⊎◌, inl, inr, ℕ, ◌<◌, ◌≤◌, Bool, true, false, List, [], ◌∷◌, length, slice_index, Option, Some, None, nat_eq, refl, sym, ap, subst, ◌∙◌, arith, append-nil}
-use Rattle.std.proofs.lemmas.Bool.Decides.{nat_tests}
+use Rattle.std.proofs.Common.{◌≡◌, ◌≢◌, ℕ, ◌≤◌, Bool, true, false, List, [], length, slice_index, Some, None, refl, sym, ap, subst, ◌∙◌, append-nil}
 use Rattle.rdb_base.specs.declared.identity.Manager.{Manager}
-use Rattle.rdb_base.specs.declared.identity.TxId.{TxId}
-use Rattle.rdb_base.specs.declared.operation.Op.{Op}
-use Rattle.rdb_base.specs.declared.operation.Reply.{Reply}
-use Rattle.rdb_base.specs.declared.journal.Entry.{Entry}
 use Rattle.rdb_schema.specs.declared.schema.Schema.{Schema}
-use Rattle.rdb_registry.specs.declared.seat.Transaction.{Transaction}
-use Rattle.rdb_sight.specs.Versions.{Versions, Marks, objects_in, shown}
+use Rattle.rdb_sight.specs.Versions.{Versions, shown}
 use Rattle.rdb_model.specs.Journal.{commits}
 use Rattle.rdb_shown.specs.Kept.{AreVersions, IsWork}
 use Rattle.rdb_serial.specs.Progress.{Progress, Course, tx_of, holds, so_far}
-use Rattle.rdb_serial.specs.Histories.{History, Scene, scene_of, view, view_in, AreSameIn, AreHeldOnce}
-use Rattle.rdb_serial.specs.Serial.{IsScene, AreDrawn}
+use Rattle.rdb_serial.specs.Histories.{Scene, view, AreSameIn, AreHeldOnce}
+use Rattle.rdb_serial.specs.Serial.{IsScene}
 use Rattle.rdb_serial.proofs.ViewLemmas.{views_are_one}
 use Rattle.rdb_serial.proofs.CarryLemmas.{Carries, drawn_more}
 

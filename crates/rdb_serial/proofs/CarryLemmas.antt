@@ -1,11 +1,8 @@
 -- What is so of a connection is carried over to another scene: a longer journal, other marks and other versions that show it the same.
-use Rattle.std.proofs.Common.{◌≡◌, ◌≢◌, ℕ, ◌+◌, ◌<◌, ◌≤◌, Bool, true, false, List, [], ◌∷◌, ◌++◌, length, take, drop, slice_index, Option, Some, None, IsSome, refl, sym, ap, ap₂, subst, ◌∙◌, arith, Contains}
+use Rattle.std.proofs.Common.{◌≡◌, ℕ, ◌+◌, ◌≤◌, Bool, true, false, List, ◌++◌, length, take, drop, slice_index, Some, None, IsSome, refl, sym, ap, subst, ◌∙◌, arith, Contains}
 use Rattle.std.proofs.lemmas.List.{take-append-le, take-append-drop, length-append}
 use Rattle.std.proofs.lemmas.List.Elements.{Contains-append_left}
-use Rattle.rdb_base.specs.declared.identity.TxId.{TxId}
 use Rattle.rdb_base.specs.declared.identity.Manager.{Manager}
-use Rattle.rdb_base.specs.declared.operation.Op.{Op}
-use Rattle.rdb_base.specs.declared.operation.Reply.{Reply}
 use Rattle.rdb_base.specs.declared.journal.Cause.{Cause}
 use Rattle.rdb_base.specs.declared.journal.Cause.TheVariants as cause
 use Rattle.rdb_base.specs.declared.journal.Story.{Story}
@@ -13,17 +10,16 @@ use Rattle.rdb_base.specs.declared.journal.Entry.{Entry}
 use Rattle.rdb_base.specs.declared.journal.Entry.TheVariants as entry
 use Rattle.rdb_schema.specs.declared.schema.Schema.{Schema}
 use Rattle.rdb_registry.specs.declared.seat.Transaction.{Transaction}
-use Rattle.rdb_sight.specs.Versions.{Versions, Marks, shown}
+use Rattle.rdb_sight.specs.Versions.{shown}
 use Rattle.rdb_model.specs.Database.{Database}
 use Rattle.rdb_model.specs.Story.{run}
-use Rattle.rdb_model.specs.Answer.{answer}
-use Rattle.rdb_model.specs.Journal.{commits, fold, made_in, made_before, was_made, has_ended_since_leave}
+use Rattle.rdb_model.specs.Journal.{commits, fold, made_in, made_before, has_ended_since_leave}
 use Rattle.rdb_model.specs.Validation.{MakesAnew, RunsAfter}
 use Rattle.rdb_history.proofs.GrowthLemmas.{commits_grown, fold_grown, first_grown}
 use Rattle.rdb_shown.specs.Kept.{IsWork}
-use Rattle.rdb_serial.specs.Progress.{Progress, tx_of, is_live, so_far, story_with, reply_when_done}
+use Rattle.rdb_serial.specs.Progress.{Progress, tx_of, is_live, so_far, story_with}
 use Rattle.rdb_serial.specs.Histories.{Scene, view_in, shown_to}
-use Rattle.rdb_serial.specs.Serial.{IsCauseOf, MayRollBack, ShowsCommits, AreDrawn, IsBegun, SeesAll, IsGoingOn, HasCommit, IsOpen, IsConnection, IsSlot, IsUnrefused}
+use Rattle.rdb_serial.specs.Serial.{IsCauseOf, MayRollBack, AreDrawn, IsBegun, SeesAll, IsGoingOn, IsOpen, IsConnection, IsUnrefused}
 
 -- the commits that a transaction sees are there
 pub commits_of_front : (journal : List Entry) (n : ℕ) → n ≤ length journal → commits (take n journal) ≤ commits journal

@@ -1,22 +1,21 @@
 -- What one change of a class's versions, which a transaction's connection makes, leaves of what others see there.
-use Rattle.std.proofs.Common.{◌≡◌, ◌≢◌, ◌⊎◌, inl, inr, ℕ, ◌<◌, ◌≤◌, List, ◌∷◌, ◌++◌, length, Option, Some, None, refl, sym, ap, subst, ◌∙◌, arith, [], length-set, get_or-set_other}
+use Rattle.std.proofs.Common.{◌≡◌, ◌≢◌, inl, inr, ℕ, ◌<◌, ◌≤◌, List, ◌∷◌, ◌++◌, length, Option, Some, None, refl, sym, ap, subst, ◌∙◌, [], length-set, get_or-set_other}
 use Rattle.rdb_base.specs.declared.identity.TxId.{TxId}
 use Rattle.rdb_base.specs.declared.operation.Op.{Op}
 use Rattle.rdb_base.specs.declared.operation.Reply.{Reply}
 use Rattle.rdb_base.specs.declared.journal.Entry.{Entry}
 use Rattle.rdb_sight.specs.Sight.{is_own}
-use Rattle.rdb_sight.specs.Versions.{Version, Versions, Marks, objects_in, chain_in, with_chain, own_version, rows_shown, row_shown, shown}
+use Rattle.rdb_sight.specs.Versions.{Version, Versions, Marks, objects_in, chain_in, with_chain, own_version, row_shown, shown}
 use Rattle.rdb_model.specs.Database.{Row}
 use Rattle.rdb_shown.specs.Kept.{IsChain, AreVersions, IsUnseenBy, IsWork}
-use Rattle.rdb_shown.specs.Changes.{HasChain, PutsFirst, PutsAgain, Puts, DropsOwn, DropsGarbage, Stamps}
+use Rattle.rdb_shown.specs.Changes.{HasChain, Puts, DropsOwn, DropsGarbage, Stamps}
 use Rattle.rdb_shown.proofs.GarbageLemmas.{garbage_unseen, garbage_not_own}
 use Rattle.rdb_shown.proofs.KeptLemmas.{in_order, kept_after, same_work_after, same_shown, chain_put, chain_without, pairs_kept}
 use Rattle.rdb_shown.proofs.Picks.{find_without}
 use Rattle.rdb_shown.proofs.RestLemmas.{put_is, put_unseen, rest_chain, rest_pairs, rest_none, rest_others, rest_shown, unseen_put, put_other}
 use Rattle.rdb_serial.specs.Progress.{Course}
-use Rattle.rdb_serial.specs.Histories.{AreSameIn, with_class, IsFloor, PutsOne, DropsOne, DropsOld, IsOneChange}
-use Rattle.rdb_serial.proofs.ViewLemmas.{class_here, class_elsewhere, moved_chain, same_chain}
-use Rattle.rdb_serial.proofs.ClassLemmas.{class_shown, KeptIn, kept_in, WorkIn, work_in}
+use Rattle.rdb_serial.specs.Histories.{AreSameIn, IsFloor, DropsOld, IsOneChange}
+use Rattle.rdb_serial.proofs.ViewLemmas.{moved_chain, same_chain}
 
 module _ (journal : List Entry) (course : Course) (marks : Marks) (tx : TxId) (before after : Versions) (class : ℕ) (kept : AreVersions journal marks before) (unmarked : marks tx ≡ None) where
   -- a garbage version that is dropped is seen by nobody, its own transaction's reader too

@@ -1,5 +1,5 @@
 -- What is shown, what is kept and what is a transaction's work, class by class.
-use Rattle.std.proofs.Common.{◌≡◌, ◌⊎◌, inl, inr, ℕ, ◌<◌, ◌≤◌, List, [], length, Option, Some, None, refl, sym, ap, subst, ◌∙◌, arith}
+use Rattle.std.proofs.Common.{◌≡◌, ◌⊎◌, inl, inr, ℕ, List, [], length, Option, None, sym, ap, subst, ◌∙◌}
 use Rattle.std.specs.List.{AllPairs}
 use Rattle.std.specs.Option.{option_map}
 use Rattle.std.proofs.lemmas.List.{ext_get_or, length-map}

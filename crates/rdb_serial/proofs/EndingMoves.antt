@@ -1,5 +1,5 @@
 -- Transactions that only read or roll back end, marks that no version needs go, and connections leave.
-use Rattle.std.proofs.Common.{◌≡◌, ◌≢◌, ◌⊎◌, inl, inr, ℕ, ◌+◌, ◌<◌, ◌≤◌, Bool, true, false, ◌&&◌, ◌||◌, ◌==◌, not, cond, List, [], ◌∷◌, ◌++◌, length, Option, Some, None, IsSome, is_some, nat_eq, refl, sym, ap, ap₂, subst, ◌∙◌, arith, append-nil}
+use Rattle.std.proofs.Common.{◌≡◌, ◌≢◌, inr, ℕ, ◌≤◌, Bool, true, false, ◌&&◌, ◌||◌, not, cond, List, [], ◌∷◌, ◌++◌, length, Option, Some, None, IsSome, is_some, nat_eq, refl, sym, ap, subst, ◌∙◌, arith, append-nil}
 use Rattle.std.proofs.lemmas.Bool.Decides.{nat_tests}
 use Rattle.rdb_base.specs.Entries.{is_commit}
 use Rattle.rdb_base.specs.declared.identity.Kind.{Kind}
@@ -14,33 +14,33 @@ use Rattle.rdb_base.specs.declared.journal.Entry.TheVariants as entry
 use Rattle.rdb_schema.specs.declared.schema.Schema.{Schema}
 use Rattle.rdb_registry.specs.declared.hand.Work.{Work}
 use Rattle.rdb_registry.specs.declared.seat.Transaction.{Transaction}
-use Rattle.rdb_sight.specs.Versions.{Versions, Marks, objects_in, shown}
+use Rattle.rdb_sight.specs.Versions.{Versions, objects_in, shown}
 use Rattle.rdb_model.specs.declared.legality.Span.TheVariants as span
 use Rattle.rdb_model.specs.Fits.{AllFit}
 use Rattle.rdb_model.specs.Story.{run}
-use Rattle.rdb_model.specs.Journal.{commits, fold, ended as ended_by, ends, takes_leave, has_ended_since_leave, made_in, made_before, was_made}
+use Rattle.rdb_model.specs.Journal.{commits, fold, ended as ended_by, ends, takes_leave, has_ended_since_leave, made_in, made_before}
 use Rattle.rdb_model.specs.Parts.{IsLegalInStretches}
 use Rattle.rdb_model.specs.Validation.{MakesAnew}
 use Rattle.rdb_model.proofs.EndingLemmas.{since_push}
 use Rattle.rdb_model.proofs.KeptLaw.{read_keeps, abort_keeps, handled_keeps, closed_keeps}
 use Rattle.rdb_history.proofs.GrowthLemmas.{no_more_commits}
-use Rattle.rdb_shown.specs.Kept.{AreVersions, IsWork}
+use Rattle.rdb_shown.specs.Kept.{AreVersions}
 use Rattle.rdb_shown.specs.Changes.{HasNone, IsUnmarked}
 use Rattle.rdb_shown.proofs.KeptLemmas.{in_order}
 use Rattle.rdb_shown.proofs.MarkLemmas.{unused_shown, unused_kept, unused_work}
-use Rattle.rdb_serial.specs.Progress.{Progress, Course, tx_of, is_live, done_by_plan, so_far, story_with, mark_in, marks_of}
-use Rattle.rdb_serial.specs.Histories.{History, Scene, scene_of, view_in, shown_to, IsFloor}
-use Rattle.rdb_serial.specs.Serial.{IsAbortAllowed, AreDrawn, IsScene, IsBegun, IsOpen, IsGoingOn, IsConnection, IsSlot, EachClassAgrees, IsSerial, MakeApart, StoriesAreApart}
-use Rattle.rdb_serial.specs.Moves.{Turns, KeepsJournal, KeepsVersions, OnlyTurns, Enters, IsAtRest, ended, EndsRead, EndsRolledBack, IsUnused, EndsCommitted, Closes, IsHandled}
+use Rattle.rdb_serial.specs.Progress.{Progress, tx_of, done_by_plan, so_far, story_with, mark_in, marks_of}
+use Rattle.rdb_serial.specs.Histories.{History, Scene, scene_of, view_in}
+use Rattle.rdb_serial.specs.Serial.{IsAbortAllowed, AreDrawn, IsOpen, IsGoingOn, IsConnection, IsSlot, IsSerial}
+use Rattle.rdb_serial.specs.Moves.{OnlyTurns, Enters, ended, EndsRead, EndsRolledBack, IsUnused, EndsCommitted, Closes, IsHandled}
 use Rattle.rdb_serial.proofs.ViewLemmas.{view_either}
 use Rattle.rdb_serial.proofs.ClassLemmas.{kept_either, none_either}
-use Rattle.rdb_serial.proofs.ProgressLemmas.{mark_by, no_mark, marks_same, marks_less, apart_txs}
+use Rattle.rdb_serial.proofs.ProgressLemmas.{no_mark, marks_same, marks_less, apart_txs}
 use Rattle.rdb_serial.proofs.CarryLemmas.{Carries, carried}
 use Rattle.rdb_serial.proofs.TurnLemmas.{MakesNoMore, apart_turned, turned, KeepsPlan, floor_turned}
 use Rattle.rdb_serial.proofs.StillLemmas.{agrees_turned, nothing_so_far, makes_nothing, turned_still, connection_of}
 use Rattle.rdb_serial.proofs.StoryLemmas.{run_front, never}
 use Rattle.rdb_serial.proofs.StoryMoves.{as_many}
-use Rattle.rdb_serial.proofs.EntryLemmas.{ended_before, unended_still, ends_others, ends_own, carries_entry, scene_entered, placed, made_as_before}
+use Rattle.rdb_serial.proofs.EntryLemmas.{ended_before, unended_still, ends_others, ends_own, carries_entry, scene_entered, placed}
 
 -- the other connections, the stories and the classes, as an entry is appended that is no commit and only of the slot's client
 module _ (schema : Schema) (manager : Manager) (before after : History) (slot : ℕ) (was : Progress) (now : Option Progress) (e : Entry) (enters : Enters before after slot (Some was) now e)
@@ -77,7 +77,7 @@ no_plan was now class none p t is open_one unmarked latched plans = let same : w
 not_open : (latches : ℕ) (was : Progress) (q : Progress) (t : Transaction) → Some (ended latches was) ≡ Some q → q.transaction ≡ Some t → ⊥
 not_open latches was q t is open_one = let same : ended latches was ≡ q = (cc) in let none : None ≡ Some t = ap (λ (r : Progress). r.transaction) same ∙ open_one in (cc)
 
-story_of_none : (p : Progress) → p.work ≡ None → so_far p ≡ p.done
+pub story_of_none : (p : Progress) → p.work ≡ None → so_far p ≡ p.done
 story_of_none p none = ap (λ (w : Option Work). p.done ++ done_by_plan w) none ∙ append-nil p.done
 
 -- a connection whose transaction an entry ended

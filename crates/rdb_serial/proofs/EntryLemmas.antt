@@ -1,5 +1,5 @@
 -- A journal with one entry more that is no commit: what stays so of it, of the versions and of each connection that the entry isn't of.
-use Rattle.std.proofs.Common.{◌≡◌, ◌≢◌, ◌⊎◌, inl, inr, ℕ, ◌+◌, ◌<◌, ◌≤◌, Bool, true, false, ◌&&◌, ◌||◌, ◌==◌, not, cond, List, [], ◌∷◌, ◌++◌, length, take, Option, Some, None, nat_eq, nat_le, refl, sym, ap, ap₂, subst, ◌∙◌, arith, append-nil, Contains}
+use Rattle.std.proofs.Common.{◌≡◌, ◌≢◌, ◌⊎◌, inl, inr, ℕ, Bool, true, false, ◌&&◌, ◌||◌, ◌==◌, not, List, [], ◌∷◌, ◌++◌, length, take, Option, Some, None, nat_eq, nat_le, refl, sym, ap, subst, ◌∙◌, arith, append-nil, Contains}
 use Rattle.std.specs.Option.{option_map_or}
 use Rattle.std.proofs.lemmas.Bool.Decides.{nat_tests}
 use Rattle.std.proofs.lemmas.List.Elements.{Contains-push_cases}
@@ -13,10 +13,10 @@ use Rattle.rdb_base.specs.declared.journal.Entry.{Entry}
 use Rattle.rdb_base.specs.declared.journal.Entry.TheVariants as entry
 use Rattle.rdb_schema.specs.declared.schema.Schema.{Schema}
 use Rattle.rdb_registry.specs.declared.seat.Transaction.{Transaction}
-use Rattle.rdb_sight.specs.Versions.{Versions, shown}
+use Rattle.rdb_sight.specs.Versions.{shown}
 use Rattle.rdb_model.specs.Fits.{AllFit}
-use Rattle.rdb_model.specs.Journal.{commits, committed, fold, ended, ends, takes_leave, has_ended_since_leave, is_placed, made_in, made_before, was_made}
-use Rattle.rdb_model.specs.Parts.{HoldsOfEach, IsLegalInStretches}
+use Rattle.rdb_model.specs.Journal.{commits, committed, fold, ended, ends, takes_leave, has_ended_since_leave, is_placed, made_in, made_before}
+use Rattle.rdb_model.specs.Parts.{IsLegalInStretches}
 use Rattle.rdb_model.specs.Validation.{MakesAnew}
 use Rattle.rdb_model.proofs.EndingLemmas.{since_push}
 use Rattle.rdb_model.proofs.PartLemmas.{holds_with}

@@ -1,5 +1,5 @@
 -- Plans of drops are made, and plans are given up.
-use Rattle.std.proofs.Common.{◌≡◌, ◌≢◌, ◌⊎◌, inl, inr, ℕ, ◌+◌, ◌<◌, ◌≤◌, Bool, true, false, not, cond, List, [], ◌∷◌, ◌++◌, length, slice_index, Option, Some, None, nat_eq, refl, sym, ap, ap₂, subst, ◌∙◌, arith, append-nil}
+use Rattle.std.proofs.Common.{◌≡◌, ◌≢◌, ◌⊎◌, inl, inr, ℕ, ◌≤◌, Bool, true, false, List, [], ◌∷◌, ◌++◌, length, slice_index, Option, Some, None, nat_eq, refl, sym, ap, subst, ◌∙◌, arith, append-nil}
 use Rattle.std.proofs.lemmas.List.Elements.{filter_map-append}
 use Rattle.std.proofs.lemmas.Bool.Decides.{nat_tests}
 use Rattle.rdb_base.specs.declared.identity.Manager.{Manager}
@@ -7,30 +7,29 @@ use Rattle.rdb_base.specs.declared.identity.Manager.TheVariants as managers
 use Rattle.rdb_base.specs.declared.identity.TxId.{TxId}
 use Rattle.rdb_base.specs.declared.operation.Op.{Op}
 use Rattle.rdb_base.specs.declared.operation.Reply.{Reply}
-use Rattle.rdb_base.specs.declared.journal.Entry.{Entry}
 use Rattle.rdb_schema.specs.declared.schema.Schema.{Schema}
 use Rattle.rdb_registry.specs.declared.hand.Work.{Work}
 use Rattle.rdb_registry.specs.declared.seat.Transaction.{Transaction}
-use Rattle.rdb_sight.specs.Versions.{Versions, Marks, objects_in, shown}
+use Rattle.rdb_sight.specs.Versions.{Versions, objects_in, shown}
 use Rattle.rdb_model.specs.Database.{Database}
 use Rattle.rdb_model.specs.Journal.{commits, made_by, made_in, made_before, was_made}
 use Rattle.rdb_model.specs.Validation.{MakesAnew}
 use Rattle.rdb_model.proofs.MadeObjects.{made_left}
-use Rattle.rdb_shown.specs.Kept.{AreVersions, IsWork}
+use Rattle.rdb_shown.specs.Kept.{AreVersions}
 use Rattle.rdb_serial.specs.Progress.{Progress, Course, tx_of, holds, is_live, done_by_plan, so_far, mark_in, marks_of}
-use Rattle.rdb_serial.specs.Histories.{History, Scene, scene_of, view, view_in, shown_to, TakesOver, AreSameIn, IsFloor, DropsOld, IsOneChange, IsPlanned, AreHeldOnce}
-use Rattle.rdb_serial.specs.Serial.{AreDrawn, IsScene, IsBegun, IsUnrefused, IsGoingOn, IsOpen, IsConnection, IsSerial}
-use Rattle.rdb_serial.specs.Moves.{Turns, KeepsJournal, IsToPlan, PlansGarbage, PlansDrop, LaysDown}
+use Rattle.rdb_serial.specs.Histories.{History, Scene, scene_of, view, shown_to, AreSameIn, DropsOld, IsPlanned, AreHeldOnce}
+use Rattle.rdb_serial.specs.Serial.{IsBegun, IsUnrefused, IsGoingOn, IsOpen, IsConnection, IsSerial}
+use Rattle.rdb_serial.specs.Moves.{PlansGarbage, PlansDrop, LaysDown}
 use Rattle.rdb_serial.proofs.ClassLemmas.{kept_either}
 use Rattle.rdb_serial.proofs.ProgressLemmas.{mark_by, marks_same}
 use Rattle.rdb_serial.proofs.ChangeLemmas.{moved_garbage, old_unseen, old_is_no_work}
 use Rattle.rdb_serial.proofs.CarryLemmas.{Carries, carried, drawn_more}
-use Rattle.rdb_serial.proofs.TurnLemmas.{made_of, MakesNoMore, apart_turned, turned}
+use Rattle.rdb_serial.proofs.TurnLemmas.{MakesNoMore, apart_turned, turned}
 use Rattle.rdb_serial.proofs.StillLemmas.{StaysIn, floors_stay, plan_stays, agrees_turned, connection_of}
 use Rattle.rdb_serial.proofs.StoryLemmas.{never}
 use Rattle.rdb_serial.proofs.StoryMoves.{as_many, same_commits}
 use Rattle.rdb_serial.proofs.AimLemmas.{carries_aims, scene_aims, others_see_the_same}
-use Rattle.rdb_serial.proofs.PlanMoves.{mark_here, aims_at_settled, Planning, planned, view_kept, view_there, view_long, view_was, view_now, view_elsewhere, unmarked_tx}
+use Rattle.rdb_serial.proofs.PlanMoves.{aims_at_settled, Planning, planned, view_kept, view_there, view_long, view_was, view_now, view_elsewhere, unmarked_tx}
 
 -- nobody else holds a latch that one holds
 pub held_by_one : (course : Course) (slot class : ℕ) (was : Progress) → AreHeldOnce course → course slot ≡ Some was → holds was.latches class ≡ true → (other : ℕ) (q : Progress) → other ≢ slot → course other ≡ Some q → holds q.latches class ≡ false
@@ -257,7 +256,7 @@ lays_down schema manager before after slot serial once move =
       ended = is_now.ended;
       anew = story (λ (d : List (Op × Reply)). MakesAnew (made_before before.journal) d) is_now.anew (λ anew. subst (MakesAnew (made_before before.journal)) (sym (append-nil move.was.done)) (anew_front (made_before before.journal) move.was.done (done_by_plan move.was.work) anew));
       drawn = λ class id made. is_now.drawn class id (less (class, id) made);
-      open_one = λ u e. dead_open schema manager s_now move.was u move.work move.latches false move.given_up (is_now.open_one u e);
+      open_one = λ u e. dead_open schema manager s_now move.was u move.work move.latches move.plans move.given_up (is_now.open_one u e);
     })
     (apart_turned before.course after.course slot move.turns.others (same_made before.course after.course slot move.was now move.turns.was_there move.turns.is_there less) serial.apart)
     (agrees_turned manager before after slot (Some move.was) (Some now) move.turns
@@ -265,7 +264,7 @@ lays_down schema manager before after slot serial once move =
     (ap (λ (vs : Versions). length vs) move.settled) (λ many class. agree class (holds move.was.latches class) refl) serial.agrees)
   where
     now : Progress
-    now = record move.was { work = move.work; plans = false; latches = move.latches }
+    now = record move.was { work = move.work; plans = move.plans; latches = move.latches }
 
     s_now : Scene
     s_now = record (scene_of before) { drawn = after.drawn; aimed = after.aimed }

@@ -12,3 +12,10 @@ pub mod EndingMoves
 pub mod AimLemmas
 pub mod PlanMoves
 pub mod GivingMoves
+pub mod SettlingMoves
+pub mod StampMoves
+pub mod MarkMoves
+pub mod EmptyMoves
+pub mod PutLemmas
+pub mod ObjectLemmas
+pub mod OwnPlans

@@ -1,42 +1,29 @@
 -- Plans are made, and plans are given up: what is aimed at changes, and the settled versions stay.
-use Rattle.std.proofs.Common.{◌≡◌, ◌≢◌, ◌⊎◌, inl, inr, ℕ, ◌+◌, ◌<◌, ◌≤◌, Bool, true, false, ◌&&◌, ◌||◌, ◌==◌, not, cond, List, [], ◌∷◌, ◌++◌, length, slice_index, Option, Some, None, IsSome, is_some, nat_eq, refl, sym, ap, ap₂, subst, ◌∙◌, arith, append-nil, length-set, option_and_then}
-use Rattle.std.specs.List.{list_any}
-use Rattle.std.specs.Option.{option_map_or}
+use Rattle.std.proofs.Common.{◌≡◌, ◌≢◌, ◌⊎◌, inl, inr, ℕ, ◌<◌, ◌≤◌, Bool, true, false, ◌&&◌, ◌==◌, cond, length, slice_index, Option, Some, None, nat_eq, refl, sym, ap, ap₂, subst, ◌∙◌, arith, length-set, option_and_then}
 use Rattle.std.proofs.lemmas.Bool.Decides.{nat_tests}
 use Rattle.rdb_base.specs.declared.identity.ConnId.{ConnId}
-use Rattle.rdb_base.specs.declared.identity.Kind.{Kind}
 use Rattle.rdb_base.specs.declared.identity.Manager.{Manager}
 use Rattle.rdb_base.specs.declared.identity.Manager.TheVariants as managers
 use Rattle.rdb_base.specs.declared.identity.TxId.{TxId}
-use Rattle.rdb_base.specs.declared.operation.Op.{Op}
-use Rattle.rdb_base.specs.declared.operation.Reply.{Reply}
-use Rattle.rdb_base.specs.declared.journal.Entry.{Entry}
 use Rattle.rdb_schema.specs.declared.schema.Schema.{Schema}
-use Rattle.rdb_registry.specs.declared.hand.Work.{Work}
 use Rattle.rdb_registry.specs.declared.seat.Transaction.{Transaction}
 use Rattle.rdb_registry.specs.Seats.{mark_if}
-use Rattle.rdb_sight.specs.Versions.{Versions, Marks, objects_in, shown}
-use Rattle.rdb_model.specs.Database.{Database}
-use Rattle.rdb_model.specs.Fits.{Fits, AllFit}
-use Rattle.rdb_model.specs.Story.{run}
-use Rattle.rdb_model.specs.Journal.{commits, fold, made_in, made_before, was_made}
-use Rattle.rdb_model.specs.Validation.{MakesAnew}
-use Rattle.rdb_model.proofs.MadeObjects.{made_left}
-use Rattle.rdb_shown.specs.Kept.{AreVersions, IsWork}
-use Rattle.rdb_serial.specs.Progress.{Progress, Course, tx_of, holds, is_live, done_by_plan, so_far, mark_in, marks_of}
-use Rattle.rdb_serial.specs.Histories.{History, Scene, scene_of, view, view_in, shown_to, TakesOver, AreSameIn, with_class, IsFloor, DropsOld, IsOneChange, IsPlanned, AreHeldOnce}
-use Rattle.rdb_serial.specs.Serial.{AreDrawn, IsScene, IsBegun, IsUnrefused, IsGoingOn, IsOpen, IsConnection, IsSlot, StoriesAreApart, IsSerial}
-use Rattle.rdb_serial.specs.Moves.{Turns, KeepsJournal, IsOpenOf, TakesLatches, IsToPlan, PlansGarbage, PlansDrop, LaysDown}
+use Rattle.rdb_sight.specs.Versions.{Versions, objects_in}
+use Rattle.rdb_shown.specs.Kept.{AreVersions}
+use Rattle.rdb_serial.specs.Progress.{Progress, Course, tx_of, holds, mark_in, marks_of}
+use Rattle.rdb_serial.specs.Histories.{History, scene_of, view, view_in, AreSameIn, with_class, IsFloor, IsOneChange, IsPlanned}
+use Rattle.rdb_serial.specs.Serial.{IsConnection, StoriesAreApart, IsSerial}
+use Rattle.rdb_serial.specs.Moves.{Turns}
 use Rattle.rdb_serial.proofs.ViewLemmas.{length_view, view_latched, view_free, view_either, views_are_one, class_here, class_elsewhere}
 use Rattle.rdb_serial.proofs.ClassLemmas.{kept_either}
 use Rattle.rdb_serial.proofs.ProgressLemmas.{mark_by, own_mark, marks_same}
-use Rattle.rdb_serial.proofs.ChangeLemmas.{change_kept, change_there, change_long, change_elsewhere, moved_change, moved_garbage, old_unseen, old_is_no_work}
-use Rattle.rdb_serial.proofs.CarryLemmas.{Carries, carried}
-use Rattle.rdb_serial.proofs.TurnLemmas.{made_of, MakesNoMore, apart_turned, turned, KeepsPlan}
-use Rattle.rdb_serial.proofs.StillLemmas.{floors_stay, plan_stays, KeepsSnapshots, StaysIn, agrees_turned, connection_of}
+use Rattle.rdb_serial.proofs.ChangeLemmas.{change_kept, change_there, change_long, change_elsewhere, moved_change}
+use Rattle.rdb_serial.proofs.CarryLemmas.{carried}
+use Rattle.rdb_serial.proofs.TurnLemmas.{turned}
+use Rattle.rdb_serial.proofs.StillLemmas.{floors_stay, plan_stays, StaysIn, agrees_turned, connection_of}
 use Rattle.rdb_serial.proofs.StoryLemmas.{never}
 use Rattle.rdb_serial.proofs.StoryMoves.{as_many, same_commits}
-use Rattle.rdb_serial.proofs.AimLemmas.{carries_aims, scene_aims, others_see_the_same}
+use Rattle.rdb_serial.proofs.AimLemmas.{carries_aims, scene_aims}
 
 -- the mark of a connection's transaction among all
 pub mark_here : (course : Course) (slot : ℕ) (p : Progress) (t : Transaction) → course slot ≡ Some p → p.conn.slot ≡ slot → p.transaction ≡ Some t → marks_of course (tx_of p t) ≡ t.mark

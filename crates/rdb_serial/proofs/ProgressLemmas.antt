@@ -1,16 +1,14 @@
 -- Marks as the progress of connections says them, as one connection's changes.
-use Rattle.std.proofs.Common.{◌≡◌, ◌≢◌, ◌⊎◌, inl, inr, ℕ, ◌+◌, Bool, true, false, ◌&&◌, ◌==◌, cond, Option, Some, None, nat_eq, refl, sym, ap, subst, ◌∙◌, arith, option_and_then, option_map}
+use Rattle.std.proofs.Common.{◌≡◌, ◌≢◌, ℕ, Bool, true, false, ◌&&◌, ◌==◌, cond, Option, Some, None, nat_eq, refl, sym, ap, subst, ◌∙◌, arith, option_and_then, option_map}
 use Rattle.std.proofs.lemmas.Bool.Decides.{nat_tests}
 use Rattle.rdb_base.specs.declared.identity.ConnId.{ConnId}
 use Rattle.rdb_base.specs.declared.identity.TxId.{TxId}
 use Rattle.rdb_registry.specs.declared.seat.Seat.{Seat}
 use Rattle.rdb_registry.specs.declared.seat.Transaction.{Transaction}
 use Rattle.rdb_registry.specs.Seats.{Seats, seat_in, if_conn, transaction_in, mark_if, mark_of, marked}
-use Rattle.rdb_sight.specs.Sight.{same_tx}
-use Rattle.rdb_sight.specs.Versions.{Marks}
 use Rattle.rdb_shown.specs.Changes.{IsMarked, IsUnmarked}
 use Rattle.rdb_shown.proofs.StampLemmas.{same_is}
-use Rattle.rdb_serial.specs.Progress.{Progress, Course, progress_of, progress_in, tx_of, if_of, mark_in, marks_of}
+use Rattle.rdb_serial.specs.Progress.{Progress, Course, progress_of, progress_in, tx_of, mark_in, marks_of}
 
 -- whether a transaction is of a connection
 abbrev pub is_of : TxId → Progress → Bool

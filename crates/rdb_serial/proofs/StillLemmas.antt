@@ -1,22 +1,21 @@
 -- A history stays serial as one connection's progress changes and neither the journal nor any version does.
-use Rattle.std.proofs.Common.{◌≡◌, ◌≢◌, ◌⊎◌, inl, inr, ℕ, ◌<◌, ◌≤◌, Bool, true, false, List, [], ◌∷◌, ◌++◌, length, Option, Some, None, refl, sym, ap, ap₂, subst, ◌∙◌, arith}
+use Rattle.std.proofs.Common.{◌≡◌, ◌⊎◌, inl, inr, ℕ, ◌≤◌, true, false, List, [], ◌++◌, length, Option, Some, None, refl, sym, ap, ap₂, subst, ◌∙◌}
 use Rattle.rdb_base.specs.declared.identity.Manager.{Manager}
 use Rattle.rdb_base.specs.declared.identity.Manager.TheVariants as managers
 use Rattle.rdb_base.specs.declared.operation.Op.{Op}
 use Rattle.rdb_base.specs.declared.operation.Reply.{Reply}
-use Rattle.rdb_base.specs.declared.journal.Entry.{Entry}
 use Rattle.rdb_schema.specs.declared.schema.Schema.{Schema}
 use Rattle.rdb_registry.specs.declared.hand.Work.{Work}
 use Rattle.rdb_registry.specs.declared.seat.Transaction.{Transaction}
-use Rattle.rdb_sight.specs.Versions.{Versions, Marks, objects_in}
+use Rattle.rdb_sight.specs.Versions.{Versions, objects_in}
 use Rattle.rdb_base.specs.declared.identity.TxId.{TxId}
-use Rattle.rdb_model.specs.Journal.{commits, made_in, was_made, has_ended_since_leave}
-use Rattle.rdb_serial.specs.Progress.{Progress, Course, tx_of, holds, done_by_plan, so_far, mark_in, marks_of}
-use Rattle.rdb_serial.specs.Histories.{History, Scene, scene_of, AreSameIn, IsFloor, IsPlanned}
-use Rattle.rdb_serial.specs.Serial.{IsScene, IsConnection, IsSlot, StoriesAreApart, EachClassAgrees, IsSerial}
+use Rattle.rdb_model.specs.Journal.{commits, made_in, was_made}
+use Rattle.rdb_serial.specs.Progress.{Progress, holds, done_by_plan, so_far, mark_in, marks_of}
+use Rattle.rdb_serial.specs.Histories.{History, scene_of, AreSameIn, IsFloor, IsPlanned}
+use Rattle.rdb_serial.specs.Serial.{IsConnection, IsSlot, EachClassAgrees, IsSerial}
 use Rattle.rdb_serial.specs.Moves.{Turns, KeepsJournal, KeepsVersions, OnlyTurns, IsUnchanged}
 use Rattle.rdb_serial.proofs.ProgressLemmas.{marks_same}
-use Rattle.rdb_serial.proofs.TurnLemmas.{made_of, MakesNoMore, apart_turned, turned, KeepsPlan, planned_turned, floor_turned}
+use Rattle.rdb_serial.proofs.TurnLemmas.{MakesNoMore, apart_turned, turned, KeepsPlan, planned_turned, floor_turned}
 
 -- the floors stay, as far as one connection goes
 abbrev pub KeepsSnapshots : ℕ → Progress → Progress → Type 0

@@ -1,6 +1,6 @@
 -- Stories with one operation more or less, and what an answer that writes nothing leaves.
-use Rattle.std.proofs.Common.{◌≡◌, ◌≢◌, ◌⊎◌, inl, inr, ℕ, ◌+◌, ◌<◌, ◌≤◌, Bool, true, false, ◌&&◌, not, cond, List, [], ◌∷◌, ◌++◌, length, Option, Some, None, IsSome, is_none, is_some, refl, sym, ap, ap₂, subst, ◌∙◌, arith, append-nil, append_assoc}
-use Rattle.std.specs.List.{All, cons_option}
+use Rattle.std.proofs.Common.{◌≡◌, ℕ, Bool, true, false, ◌&&◌, not, cond, List, [], ◌∷◌, ◌++◌, Option, Some, None, IsSome, is_none, refl, sym, ap, ◌∙◌, append-nil}
+use Rattle.std.specs.List.{cons_option}
 use Rattle.std.specs.Option.{option_map_or}
 use Rattle.std.proofs.lemmas.List.Elements.{All-push}
 use Rattle.rdb_base.specs.declared.identity.TxId.{TxId}
@@ -14,7 +14,7 @@ use Rattle.rdb_schema.specs.declared.schema.Schema.{Schema}
 use Rattle.rdb_schema.specs.Indexes.{indexes_of}
 use Rattle.rdb_registry.specs.declared.hand.Work.{Work}
 use Rattle.rdb_sight.specs.Versions.{Versions, Marks}
-use Rattle.rdb_model.specs.Database.{Row, Database, Objects, objects_of, with_objects, with_row, without, row_of}
+use Rattle.rdb_model.specs.Database.{Database, objects_of, with_objects, with_row, without, row_of}
 use Rattle.rdb_model.specs.Answer.{answer, written, clash}
 use Rattle.rdb_model.specs.Fits.{Fits, AllFit}
 use Rattle.rdb_model.specs.Story.{run, same_reply}

@@ -1,12 +1,9 @@
 -- A connection comes, begins, and goes on with its story: the journal and all versions stay.
-use Rattle.std.proofs.Common.{◌≡◌, ◌≢◌, ◌⊎◌, inl, inr, ℕ, ◌+◌, ◌<◌, ◌≤◌, Bool, true, false, ◌&&◌, not, cond, List, [], ◌∷◌, ◌++◌, length, take, Option, Some, None, IsSome, is_none, is_some, refl, sym, ap, ap₂, subst, ◌∙◌, arith, append-nil}
-use Rattle.std.specs.List.{All}
+use Rattle.std.proofs.Common.{◌≡◌, inl, inr, ℕ, ◌+◌, ◌≤◌, Bool, true, false, ◌&&◌, not, List, [], ◌∷◌, ◌++◌, length, Option, Some, None, IsSome, is_some, refl, sym, ap, subst, ◌∙◌, arith, append-nil}
 use Rattle.std.proofs.lemmas.List.{take_all}
 use Rattle.std.proofs.lemmas.List.Elements.{All-nil}
 use Rattle.rdb_base.specs.declared.identity.Kind.{Kind}
-use Rattle.rdb_base.specs.declared.identity.Kind.TheVariants as kinds
 use Rattle.rdb_base.specs.declared.identity.Manager.{Manager}
-use Rattle.rdb_base.specs.declared.identity.Manager.TheVariants as managers
 use Rattle.rdb_base.specs.declared.identity.TxId.{TxId}
 use Rattle.rdb_base.specs.declared.operation.Op.{Op}
 use Rattle.rdb_base.specs.declared.operation.Reply.{Reply}
@@ -19,7 +16,6 @@ use Rattle.rdb_registry.specs.declared.seat.Transaction.{Transaction}
 use Rattle.rdb_registry.specs.Seats.{beginning}
 use Rattle.rdb_sight.specs.Versions.{Versions, Marks, objects_in, chain_in, shown}
 use Rattle.rdb_model.specs.Database.{Database}
-use Rattle.rdb_model.specs.Answer.{answer}
 use Rattle.rdb_model.specs.Fits.{Fits, AllFit}
 use Rattle.rdb_model.specs.Story.{run}
 use Rattle.rdb_model.specs.Journal.{commits, fold, made_in, made_before, was_made, has_ended_since_leave}
@@ -31,14 +27,14 @@ use Rattle.rdb_shown.proofs.KeptLemmas.{in_order}
 use Rattle.rdb_shown.proofs.MarkLemmas.{shown_alike}
 use Rattle.rdb_shown.proofs.NothingLemmas.{no_work}
 use Rattle.rdb_shown.proofs.RestLemmas.{none_own_shown}
-use Rattle.rdb_serial.specs.Progress.{Progress, Course, tx_of, holds, is_live, done_by_plan, so_far, story_with, mark_in, marks_of}
-use Rattle.rdb_serial.specs.Histories.{History, Scene, scene_of, view, view_in, shown_to, AreSameIn, IsFloor}
-use Rattle.rdb_serial.specs.Serial.{MayRollBack, ShowsCommits, AreDrawn, IsScene, IsBegun, IsUnrefused, SeesAll, IsGoingOn, HasCommit, IsOpen, IsConnection, IsSlot, IsSerial}
-use Rattle.rdb_serial.specs.Moves.{Turns, OnlyTurns, IsOpenOf, IsFreeOf, TakesLatches, GivesLatches, Comes, Begins, begins, Notes, TakesWork, Finishes, RollsBack, IsCondemned}
+use Rattle.rdb_serial.specs.Progress.{Progress, tx_of, holds, is_live, done_by_plan, so_far, story_with, mark_in, marks_of}
+use Rattle.rdb_serial.specs.Histories.{History, Scene, scene_of, view, view_in, shown_to}
+use Rattle.rdb_serial.specs.Serial.{MayRollBack, AreDrawn, IsScene, IsUnrefused, IsGoingOn, IsOpen, IsConnection, IsSlot, IsSerial}
+use Rattle.rdb_serial.specs.Moves.{TakesLatches, GivesLatches, Comes, Begins, begins, Notes, TakesWork, Finishes, RollsBack, IsCondemned}
 use Rattle.rdb_serial.proofs.ViewLemmas.{length_view, view_latched, view_free, view_is}
-use Rattle.rdb_serial.proofs.ProgressLemmas.{mark_by, no_mark, own_mark}
-use Rattle.rdb_serial.proofs.TurnLemmas.{MakesNoMore, KeepsPlan, floor_turned}
-use Rattle.rdb_serial.proofs.StillLemmas.{floors_stay, plan_stays, KeepsSnapshots, KeepsOwnPlan, nothing_so_far, makes_nothing, turned_still, connection_of}
+use Rattle.rdb_serial.proofs.ProgressLemmas.{mark_by, no_mark}
+use Rattle.rdb_serial.proofs.TurnLemmas.{floor_turned}
+use Rattle.rdb_serial.proofs.StillLemmas.{floors_stay, plan_stays, KeepsSnapshots, nothing_so_far, makes_nothing, turned_still, connection_of}
 use Rattle.rdb_serial.proofs.StoryLemmas.{noted_so_far, unplanned_so_far, unwritten, run_more, run_front, unmade, made_same, anew_same, read_is_no_work, fits_more, live_has_no_cause, never}
 
 -- the commits and the floors of a journal that stays

@@ -1,17 +1,15 @@
 -- A history stays serial as one connection's progress changes, by what is so of the scene, of the other connections and of that one.
-use Rattle.std.proofs.Common.{◌≡◌, ◌≢◌, ◌⊎◌, inl, inr, ℕ, ◌<◌, ◌≤◌, Bool, true, false, List, [], ◌∷◌, ◌++◌, length, Option, Some, None, nat_eq, refl, sym, ap, subst, ◌∙◌, arith, length-set}
+use Rattle.std.proofs.Common.{◌≡◌, ◌≢◌, ◌⊎◌, inl, inr, ℕ, ◌<◌, ◌≤◌, Bool, true, false, List, [], length, Option, Some, None, nat_eq, refl, sym, ap, subst, ◌∙◌, arith, length-set}
 use Rattle.std.proofs.lemmas.Bool.Decides.{nat_tests}
 use Rattle.rdb_base.specs.declared.identity.ConnId.{ConnId}
 use Rattle.rdb_base.specs.declared.identity.Manager.{Manager}
-use Rattle.rdb_base.specs.declared.identity.Manager.TheVariants as managers
-use Rattle.rdb_base.specs.declared.journal.Entry.{Entry}
 use Rattle.rdb_schema.specs.declared.schema.Schema.{Schema}
 use Rattle.rdb_registry.specs.declared.seat.Transaction.{Transaction}
-use Rattle.rdb_sight.specs.Versions.{Versions, Marks, objects_in}
+use Rattle.rdb_sight.specs.Versions.{objects_in}
 use Rattle.rdb_model.specs.Journal.{commits, made_in, was_made, has_ended_since_leave}
-use Rattle.rdb_serial.specs.Progress.{Progress, Course, tx_of, holds, so_far, marks_of}
-use Rattle.rdb_serial.specs.Histories.{History, Scene, scene_of, AreSameIn, with_class, IsFloor, IsOneChange, IsPlanned, AreHeldOnce}
-use Rattle.rdb_serial.specs.Serial.{IsScene, IsConnection, IsSlot, MakeApart, StoriesAreApart, EachClassAgrees, IsSerial}
+use Rattle.rdb_serial.specs.Progress.{Progress, Course, tx_of, holds, so_far}
+use Rattle.rdb_serial.specs.Histories.{History, Scene, scene_of, AreSameIn, with_class, IsFloor, IsOneChange, IsPlanned}
+use Rattle.rdb_serial.specs.Serial.{IsScene, IsConnection, IsSlot, StoriesAreApart, EachClassAgrees, IsSerial}
 use Rattle.rdb_serial.specs.Moves.{Turns}
 use Rattle.rdb_serial.proofs.ViewLemmas.{class_here, class_elsewhere}
 use Rattle.rdb_serial.proofs.ChangeLemmas.{change_there, moved_change}

@@ -1,12 +1,11 @@
 -- Lists of versions class by class: the versions as a connection sees them, and one class or several from another list.
-use Rattle.std.proofs.Common.{◌≡◌, ◌≢◌, ◌⊎◌, inl, inr, ℕ, zero, suc, ◌+◌, ◌<◌, ◌≤◌, Bool, true, false, cond, ◌==◌, List, [], ◌∷◌, length, nat_eq, refl, sym, ap, subst, ◌∙◌, arith, slice_index_or, slice_set, get_or-set_same, get_or-set_other, length-set}
-use Rattle.std.specs.Int.{bit_at}
+use Rattle.std.proofs.Common.{◌≡◌, ◌≢◌, ◌⊎◌, inl, inr, ℕ, zero, suc, ◌+◌, ◌<◌, ◌≤◌, Bool, true, false, cond, List, [], ◌∷◌, length, nat_eq, refl, sym, ap, subst, ◌∙◌, arith, slice_index_or, get_or-set_same, get_or-set_other, length-set}
 use Rattle.std.proofs.lemmas.Bool.Decides.{nat_tests}
 use Rattle.std.proofs.lemmas.List.{ext_get_or, get_or_past}
 use Rattle.rdb_sight.specs.Versions.{Version, Object, Versions, chain_of, objects_in, chain_in, with_chain, with_chain_in}
 use Rattle.rdb_shown.specs.Changes.{HasChain}
 use Rattle.rdb_serial.specs.Progress.{holds}
-use Rattle.rdb_serial.specs.Histories.{view_from, view, TakesOver, AreSameIn, with_class}
+use Rattle.rdb_serial.specs.Histories.{view_from, view, AreSameIn, with_class}
 
 -- a class beyond all has no object
 pub beyond : (versions : Versions) (class : ℕ) → length versions ≤ class → objects_in versions class ≡ []

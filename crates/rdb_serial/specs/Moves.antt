@@ -1,27 +1,31 @@
 -- The moves of one connection that the serial history rests on: what each asks of the history before it, and what it leaves after it.
-use Rattle.std.specs.Prelude.{◌≡◌, ◌≢◌, ◌<◌, ◌≤◌, ◌+◌, ◌∷◌, ◌++◌, ◌⊎◌, ℕ, Bool, true, false, List, [], length, slice_index, Option, Some, None}
-use Rattle.rdb_base.specs.declared.identity.ConnId.{ConnId}
+use Rattle.std.specs.Prelude.{◌≡◌, ◌≢◌, ◌<◌, ◌≤◌, ◌+◌, ◌∷◌, ◌++◌, ◌⊎◌, ℕ, Bool, true, false, List, [], length, replicate, slice_index, Option, Some, None}
 use Rattle.rdb_base.specs.declared.identity.Kind.{Kind}
 use Rattle.rdb_base.specs.declared.identity.Kind.TheVariants as kind
 use Rattle.rdb_base.specs.declared.identity.Manager.{Manager}
 use Rattle.rdb_base.specs.declared.identity.Manager.TheVariants as managers
 use Rattle.rdb_base.specs.declared.operation.Op.{Op}
+use Rattle.rdb_base.specs.declared.operation.Op.TheVariants as op
 use Rattle.rdb_base.specs.declared.operation.Reply.{Reply}
 use Rattle.rdb_base.specs.declared.journal.Cause.{Cause}
+use Rattle.rdb_base.specs.declared.journal.Story.{Story}
 use Rattle.rdb_base.specs.declared.journal.Entry.{Entry}
 use Rattle.rdb_base.specs.declared.journal.Entry.TheVariants as entry
+use Rattle.rdb_base.specs.Operations.{class_of}
 use Rattle.rdb_pages.specs.declared.cell.CellRef.{CellRef}
 use Rattle.rdb_schema.specs.declared.schema.Schema.{Schema}
 use Rattle.rdb_registry.specs.declared.hand.Work.{Work}
 use Rattle.rdb_registry.specs.declared.seat.Transaction.{Transaction}
-use Rattle.rdb_registry.specs.Seats.{beginning}
+use Rattle.rdb_registry.specs.Seats.{beginning, marked}
 use Rattle.rdb_model.specs.Answer.{answer}
 use Rattle.rdb_model.specs.Fits.{Fits}
 use Rattle.rdb_model.specs.Journal.{commits}
 use Rattle.rdb_model.specs.Touch.{written_by}
-use Rattle.rdb_shown.specs.Changes.{DropsOwn, DropsGarbage, HasNone}
-use Rattle.rdb_serial.specs.Progress.{Progress, tx_of, holds, is_live, so_far, story_with}
-use Rattle.rdb_serial.specs.Histories.{History, scene_of, shown_to, TakesOver, AreSameIn, IsFloor, AreHeldOnce}
+use Rattle.rdb_history.specs.Rows.{row_left}
+use Rattle.rdb_history.specs.RowTouch.{IsUntouched}
+use Rattle.rdb_shown.specs.Changes.{Puts, DropsOwn, DropsGarbage, Stamps, HasNone}
+use Rattle.rdb_serial.specs.Progress.{Progress, Course, tx_of, holds, is_live, so_far, story_with, marks_of}
+use Rattle.rdb_serial.specs.Histories.{History, scene_of, shown_to, TakesOver, AreSameIn, IsFloor}
 use Rattle.rdb_serial.specs.Serial.{IsCauseOf, IsUnrefused}
 
 -- one slot's progress is another, none where the slot is free; all others stay
@@ -74,6 +78,13 @@ pub record TakesLatches (h : History) (had latches : ℕ) : Type 0 where
 pub record GivesLatches (h : History) (had latches : ℕ) : Type 0 where
   pub had_them : (class : ℕ) → holds latches class ≡ true → holds had class ≡ true
   pub given : (class : ℕ) → holds had class ≡ true → holds latches class ≡ false → AreSameIn class h.aimed h.settled
+
+-- Nothing was done yet: there are no entry, no connection, and no version in any of so many classes.
+pub record IsEmpty (classes : ℕ) (h : History) : Type 0 where
+  pub journal : h.journal ≡ []
+  pub course : (slot : ℕ) → h.course slot ≡ None
+  pub settled : h.settled ≡ replicate classes []
+  pub aimed : h.aimed ≡ replicate classes []
 
 -- A connection comes: it has begun nothing.
 pub record Comes (before after : History) (slot : ℕ) (now : Progress) : Type 0 where
@@ -148,6 +159,54 @@ pub record PlansGarbage (before after : History) (slot class id floor : ℕ) : T
   pub least : IsFloor before.journal before.course floor
   pub drops : DropsGarbage (Some floor) before.aimed after.aimed class id
 
+-- an operation, with the id of the object that it makes
+abbrev pub with_id : ℕ → Op → Op
+with_id id (op.New class row was) = op.New class row id
+with_id id o = o
+
+-- an id is drawn in a class: one above all that were drawn there
+pub record DrawsId (class id : ℕ) (drawn now : List ℕ) : Type 0 where
+  pub above : slice_index drawn class < id
+  pub counted : id ≤ slice_index now class
+  pub grows : (other : ℕ) → slice_index drawn other ≤ slice_index now other
+
+-- the object that an operation writes: one with a new id where it makes one, else the one that it names
+abbrev pub WritesObject : Op → ℕ → List ℕ → List ℕ → Type 0
+WritesObject (op.New class row was) id drawn now = DrawsId class id drawn now
+WritesObject (op.Put class named row) id drawn now = (id ≡ named) × (now ≡ drawn)
+WritesObject (op.Del class named) id drawn now = (id ≡ named) × (now ≡ drawn)
+WritesObject _ id drawn now = ⊥
+
+-- It makes the own plan of the operation in work, which puts a version of what the operation leaves of its object.
+pub record PlansOwn (before after : History) (slot id : ℕ) (version : CellRef) : Type 0 where
+  pub was : Progress
+  pub transaction : Transaction
+  pub work : Work
+  pub to_plan : IsToPlan was transaction work
+  pub planned : Work
+  pub op_is : planned.op ≡ with_id id work.op
+  pub puts_is : planned.puts ≡ Some version
+  pub turns : Turns before after slot (Some was) (Some (record was { work = Some planned; plans = true }))
+  pub journal : after.journal ≡ before.journal
+  pub object : WritesObject work.op id before.drawn after.drawn
+  pub settled : after.settled ≡ before.settled
+  pub latched : holds was.latches (class_of work.op) ≡ true
+  pub puts : Puts before.aimed after.aimed (tx_of was transaction) (class_of work.op) id (row_left work.op)
+
+-- The last cell of a plan is written where many may write: what its connection aims at in its classes is settled.
+pub record Settles (before after : History) (slot : ℕ) : Type 0 where
+  pub was : Progress
+  pub turns : Turns before after slot (Some was) (Some (record was { plans = false }))
+  pub journal : KeepsJournal before after
+  pub aimed : after.aimed ≡ before.aimed
+  pub settled : TakesOver was.latches before.settled before.aimed after.settled
+
+-- The last cell of a plan of a single writer is written, and its operation goes on: nothing is settled before its transaction is marked.
+pub record WritesOut (manager : Manager) (before after : History) (slot : ℕ) : Type 0 where
+  pub was : Progress
+  pub single : manager ≡ managers.Mursiw
+  pub turns : OnlyTurns before after slot (Some was) (Some (record was { plans = false }))
+
 -- The operation in work is done, its own plan being written: it stands in the story with its reply. Where many may write, its versions are
 -- settled, and its latch is given up.
 pub record Finishes (manager : Manager) (before after : History) (slot : ℕ) (version : CellRef) : Type 0 where
@@ -179,14 +238,15 @@ pub record IsCondemned (before after : History) (slot : ℕ) : Type 0 where
   pub was : Progress
   pub turns : OnlyTurns before after slot (Some was) (Some (record was { condemned = true }))
 
--- A connection that doesn't go on gives up its plan, and what it likes of its work and its latches: what it aimed at is no longer spoken
--- of.
+-- A connection that doesn't go on gives up what it aimed at, and what it likes of its work, its plan and its latches: what it aimed at is
+-- no longer spoken of.
 pub record LaysDown (before after : History) (slot : ℕ) : Type 0 where
   pub was : Progress
   pub work : Option Work
   pub latches : ℕ
+  pub plans : Bool
   pub given_up : is_live was ≡ false
-  pub turns : Turns before after slot (Some was) (Some (record was { work = work; plans = false; latches = latches }))
+  pub turns : Turns before after slot (Some was) (Some (record was { work = work; plans = plans; latches = latches }))
   pub journal : KeepsJournal before after
   pub work_is : (work ≡ was.work) ⊎ (work ≡ None)
   pub had_them : (class : ℕ) → holds latches class ≡ true → holds was.latches class ≡ true
@@ -237,6 +297,56 @@ pub record EndsRolledBack (before after : History) (slot : ℕ) : Type 0 where
   pub cause : was.cause ≡ Some why
   pub rest : IsAtRest was
   pub enters : Enters before after slot (Some was) (Some (ended latches was)) (entry.Abort (story_with was transaction was.done) why)
+
+-- no other connection has an open transaction
+abbrev pub IsAlone : Course → ℕ → Type 0
+IsAlone course slot = (other : ℕ) (p : Progress) (t : Transaction) → other ≢ slot → course other ≡ Some p
+    → p.transaction ≡ Some t → ⊥
+
+-- What a mark asks where many may write: no commit above its snapshot touches the story, and the connection holds no latch.
+pub record MayMarkAmongMany (schema : Schema) (h : History) (p : Progress) (t : Transaction) : Type 0 where
+  pub untouched : IsUntouched schema h.journal (story_with p t p.done)
+  pub latches : p.latches ≡ 0
+
+-- What it asks of a single writer: it holds the latch of each class, and nobody else has an open transaction.
+pub record MayMarkAlone (h : History) (slot : ℕ) (p : Progress) : Type 0 where
+  pub alone : IsAlone h.course slot
+  pub latched : (class : ℕ) → class < length h.settled → holds p.latches class ≡ true
+
+-- the entry of a story that is the next commit
+abbrev pub next_commit : List Entry → Story → Entry
+next_commit journal story = entry.Commit story (commits journal + 1)
+
+-- the progress of a connection whose transaction is marked
+abbrev pub marks : ℕ → Progress → Transaction → Progress
+marks commit p t = record p { transaction = Some (marked commit t); done = [] }
+
+-- A transaction is marked as the next commit, and its story stands in the journal; what it aims at in its classes is settled.
+pub record Marks (schema : Schema) (manager : Manager) (before after : History) (slot : ℕ) : Type 0 where
+  pub was : Progress
+  pub transaction : Transaction
+  pub free : IsFreeOf was transaction
+  pub writes : transaction.kind ≡ kind.ReadWrite
+  pub plans : was.plans ≡ false
+  pub turns : Turns before after slot (Some was) (Some (marks (commits before.journal + 1) was transaction))
+  pub entered : after.journal ≡ before.journal ++ next_commit before.journal (story_with was transaction was.done) ∷ []
+  pub drawn : after.drawn ≡ before.drawn
+  pub aimed : after.aimed ≡ before.aimed
+  pub settled : TakesOver was.latches before.settled before.aimed after.settled
+  pub many : manager ≡ managers.Mvcc → MayMarkAmongMany schema before was transaction
+  pub single : manager ≡ managers.Mursiw → MayMarkAlone before slot was
+
+-- A version of a marked transaction is stamped, among the settled ones and among those aimed at.
+pub record StampsVersion (manager : Manager) (before after : History) (slot class id : ℕ) : Type 0 where
+  pub was : Progress
+  pub transaction : Transaction
+  pub there : before.course slot ≡ Some was
+  pub open_one : was.transaction ≡ Some transaction
+  pub course : (other : ℕ) → after.course other ≡ before.course other
+  pub journal : KeepsJournal before after
+  pub settled : Stamps (marks_of before.course) before.settled after.settled (tx_of was transaction) class id
+  pub aimed : Stamps (marks_of before.course) before.aimed after.aimed (tx_of was transaction) class id
+  pub same : manager ≡ managers.Mvcc → AreSameIn class after.aimed after.settled
 
 -- no version is of a transaction any more
 pub record IsUnused (h : History) (p : Progress) (t : Transaction) : Type 0 where

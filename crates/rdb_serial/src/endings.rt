@@ -5,7 +5,7 @@ ghost use Rattle.rdb_base.specs.declared.identity.Manager.{Manager};
 ghost use Rattle.rdb_schema.specs.declared.schema.Schema.{Schema};
 ghost use Rattle.rdb_serial.specs.Histories.{History};
 ghost use Rattle.rdb_serial.specs.Serial.{IsSerial};
-ghost use Rattle.rdb_serial.specs.Moves.{EndsRead, EndsRolledBack, EndsCommitted, Closes, IsHandled};
+ghost use Rattle.rdb_serial.specs.Moves.{EndsRead, EndsRolledBack, Marks, StampsVersion, EndsCommitted, Closes, IsHandled};
 
 /// A transaction that only read is over.
 pub fn a_read_keeps_the_history()
@@ -17,6 +17,18 @@ pub fn a_read_keeps_the_history()
 pub fn an_abort_keeps_the_history()
     ensures { (schema : Schema) (manager : Manager) (before after : History) (slot : ℕ) →
         IsSerial schema manager before → EndsRolledBack before after slot → IsSerial schema manager after }
+{}
+
+/// A transaction is marked as the next commit.
+pub fn a_mark_keeps_the_history()
+    ensures { (schema : Schema) (manager : Manager) (before after : History) (slot : ℕ) →
+        IsSerial schema manager before → Marks schema manager before after slot → IsSerial schema manager after }
+{}
+
+/// A version of a marked transaction is stamped.
+pub fn a_stamp_keeps_the_history()
+    ensures { (schema : Schema) (manager : Manager) (before after : History) (slot class id : ℕ) →
+        IsSerial schema manager before → StampsVersion manager before after slot class id → IsSerial schema manager after }
 {}
 
 /// A marked transaction whose versions are all stamped is over.

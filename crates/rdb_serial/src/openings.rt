@@ -1,13 +1,18 @@
 //! Connections come and begin transactions, and whatever else changes nothing.
 
-ghost use Rattle.std.specs.Prelude.{ℕ};
+ghost use Rattle.std.specs.Prelude.{ℕ, length};
 ghost use Rattle.rdb_base.specs.declared.identity.Kind.{Kind};
 ghost use Rattle.rdb_base.specs.declared.identity.Manager.{Manager};
 ghost use Rattle.rdb_schema.specs.declared.schema.Schema.{Schema};
 ghost use Rattle.rdb_serial.specs.Progress.{Progress};
 ghost use Rattle.rdb_serial.specs.Histories.{History};
 ghost use Rattle.rdb_serial.specs.Serial.{IsSerial};
-ghost use Rattle.rdb_serial.specs.Moves.{IsUnchanged, Comes, Begins};
+ghost use Rattle.rdb_serial.specs.Moves.{IsEmpty, IsUnchanged, Comes, Begins};
+
+/// Before anything is done the history is serial, whatever ids will be drawn.
+pub fn an_empty_history_is_serial()
+    ensures { (schema : Schema) (manager : Manager) (h : History) → IsEmpty (length schema.classes) h → IsSerial schema manager h }
+{}
 
 /// Where nothing changes that a serial history rests on, it stays one.
 pub fn an_unchanged_history_stays_serial()

@@ -20,7 +20,7 @@ pub fn a_condemned_connection_keeps_the_history()
         IsSerial schema manager before → IsCondemned before after slot → IsSerial schema manager after }
 {}
 
-/// A connection that doesn't go on gives up its plan.
+/// A connection that doesn't go on gives up what it aimed at.
 pub fn work_laid_down_keeps_the_history()
     ensures { (schema : Schema) (manager : Manager) (before after : History) (slot : ℕ) →
         IsSerial schema manager before → AreHeldOnce before.course → LaysDown before after slot → IsSerial schema manager after }

@@ -11,7 +11,7 @@ use Rattle.rdb_steps.specs.Debt.{IsBounded, settled_own, work_debt, operation_de
 use Rattle.rdb_steps.specs.Kept.{is_dropping, is_marked}
 
 repair_bound : (marked free dropping taking holding : Bool) (own undo plan : ℕ) → plan ≤ 1024 → (dropping ≡ true → 1027 ≤ own) →
-    cond marked (own + 1 + cond free 0 1) (cond dropping (plan + (own - 1027) + 2) (cond taking (undo + own + 1) (cond holding (own + 2) (own + 1)))) ≤ undo + 2 + own
+    cond marked (own + 1 + cond free 0 1) (cond dropping (plan + (own - 1027) + 2) (cond taking (undo + own + 2) (cond holding (own + 2) (own + 1)))) ≤ undo + 2 + own
 repair_bound true true dropping taking holding own undo plan few some = omega arith
 repair_bound true false dropping taking holding own undo plan few some = omega arith
 repair_bound false free true taking holding own undo plan few some = let enough = some refl in omega (arith, few, enough)

@@ -65,7 +65,7 @@ only_class latches class k none held = elim (which k class) [
       absurd (omega (arith, both, other, before, held))
 ]
 
-takes_class : (latches class : ℕ) → bit_at (with_latch latches class) class ≡ 1
+pub takes_class : (latches class : ℕ) → bit_at (with_latch latches class) class ≡ 1
 takes_class latches class =
     let both : bit_at (with_latch latches class) class ≡ max (bit_at latches class) (bit_at (2 ^ class) class) = bit_at_or latches (2 ^ class) class in
     let one : bit_at (2 ^ class) class ≡ 1 = bit_at-pow_same class in

@@ -45,7 +45,7 @@ pub record MovesSlot (before after : Transactions) (slot : ℕ) (was now : Optio
   pub entries : after.journal.entries ≡ before.journal.entries ++ more
   pub spare : after.spare_undo ≡ before.spare_undo
 
-within_of : (seats : Seats) (slot : ℕ) (s : Seat) → seat_in seats slot ≡ Some s → slot < length seats
+pub within_of : (seats : Seats) (slot : ℕ) (s : Seat) → seat_in seats slot ≡ Some s → slot < length seats
 within_of [] slot s e = absurd (let no : None ≡ Some s = e in cc)
 within_of (o ∷ os) zero s e = omega arith
 within_of (o ∷ os) (suc slot) s e = let rest = within_of os slot s e in omega (arith, rest)
@@ -84,7 +84,7 @@ module _ (before after : Transactions) (slot : ℕ) (was now : Option Seat) (mor
       ∙ ap (λ (n : ℕ). MAX_OPERATIONS * n) (length-append before.journal.entries more)
       ∙ mul-add MAX_OPERATIONS (length before.journal.entries) (length more))
 
-  fewer_stay : (serials : ℕ) (ids : List ℕ) → planned_in was ≤ planned_in now + MAX_OPERATIONS * length more → AreFewer serials ids before → AreFewer serials ids after
+  pub fewer_stay : (serials : ℕ) (ids : List ℕ) → planned_in was ≤ planned_in now + MAX_OPERATIONS * length more → AreFewer serials ids before → AreFewer serials ids after
   fewer_stay serials ids few fewer =
       let grows = planned_stays few in
       record {
@@ -95,7 +95,7 @@ module _ (before after : Transactions) (slot : ℕ) (was now : Option Seat) (mor
             (let had = fewer.spent place class in let more_room = mul-le-mul_left max_plan grows in omega (arith, had, more_room));
       }
 
-  furnished_stay : (schema : Schema) (cells : ℕ) → EachSeat (λ i. IsFurnished schema before.manager cells) before.registry.seats → ((s : Seat) → now ≡ Some s → IsFurnished schema before.manager cells s) →
+  pub furnished_stay : (schema : Schema) (cells : ℕ) → EachSeat (λ i. IsFurnished schema before.manager cells) before.registry.seats → ((s : Seat) → now ≡ Some s → IsFurnished schema before.manager cells s) →
       EachSeat (λ i. IsFurnished schema after.manager cells) after.registry.seats
   furnished_stay schema cells each own i s there = subst (λ (manager : Manager). IsFurnished schema manager cells s) (sym m.manager) (elim (which i slot) [
     | inl same ↦ own s (there_now i s same there)
@@ -103,7 +103,7 @@ module _ (before after : Transactions) (slot : ℕ) (was now : Option Seat) (mor
   ])
 
   -- where it is the single writer's if it was, the spare undo record fits still
-  spare_stays : (cells : ℕ) → ((s : Seat) → was ≡ Some s → ((x : Seat) → now ≡ Some x → is_single_writer before.manager x ≡ false) → is_single_writer before.manager s ≡ false) →
+  pub spare_stays : (cells : ℕ) → ((s : Seat) → was ≡ Some s → ((x : Seat) → now ≡ Some x → is_single_writer before.manager x ≡ false) → is_single_writer before.manager s ≡ false) →
       ((x : Seat) → now ≡ Some x → is_single_writer before.manager x ≡ true → (s : Seat) × (was ≡ Some s) × (is_single_writer before.manager s ≡ true)) → SpareFits cells before → SpareFits cells after
   spare_stays cells quiet still fits = record {
     spare = λ single none.
@@ -149,7 +149,7 @@ pub by_transaction : (m : Manager) (a b : Seat) → a.transaction ≡ b.transact
 by_transaction manager.Mursiw a b same = ap (λ (o : Option Transaction). option_map_or (λ t. may_write t.kind) o false) same
 by_transaction manager.Mvcc a b same = refl
 
-none_open : (m : Manager) (s : Seat) → s.transaction ≡ None → is_single_writer m s ≡ false
+pub none_open : (m : Manager) (s : Seat) → s.transaction ≡ None → is_single_writer m s ≡ false
 none_open manager.Mursiw s none = ap (λ (o : Option Transaction). option_map_or (λ t. may_write t.kind) o false) none
 none_open manager.Mvcc s none = refl
 
@@ -172,7 +172,7 @@ fewer_puts n false true follows had = omega (arith, had)
 fewer_puts n false false follows had = had
 
 -- a record plans no more than a transaction may
-planned_few : (schema : Schema) (m : Manager) (cells : ℕ) (s : Seat) → IsFurnished schema m cells s → planned_by s ≤ MAX_OPERATIONS
+pub planned_few : (schema : Schema) (m : Manager) (cells : ℕ) (s : Seat) → IsFurnished schema m cells s → planned_by s ≤ MAX_OPERATIONS
 planned_few schema m cells s furnished = go (not (is_unmarked s)) (is_some s.condemned) (is_rolling_back s.hand.phase)
   where
     so_far : planned_so_far s ≤ MAX_OPERATIONS

@@ -19,7 +19,7 @@ use Rattle.rdb_transactions.proofs.EditLemmas.{record_after, same_seat}
 use Rattle.rdb_writes.specs.Steps.{WritesNext, TakesNewestBack, spans_one_plan, is_written, ends, ended}
 use Rattle.rdb_writes.proofs.PlanLemmas.{longer_by_one}
 use Rattle.rdb_steps.specs.States.{ground_in}
-use Rattle.rdb_steps.specs.Steps.{EndsWork, ForgetsFirst, Finishes, forgetting_own, is_at_last}
+use Rattle.rdb_steps.specs.Steps.{EndsWork, ForgetsFirst, Finishes, forgetting_own, is_at_last, without_first}
 use Rattle.rdb_steps.specs.Written.{TakesPairBack, WritesDrop, WritesPair, WritesWork, is_emptied}
 
 one_more : (ps : List Pair) (p : Pair) → (length (ps ++ p ∷ []) == 1) ≡ (length ps == 0)
@@ -180,6 +180,7 @@ module _ (manager : Manager) (memory memory_now : RegionCells) (roll mid : Roll)
     ends = λ is_end. record {
       first = e.first;
       was = ap (λ (ws : List OwnWrite). slice_get ws 0) (sym own_same) ∙ e.there;
+      left = e.left ∙ ap without_first (ap (λ (s : Seat). s.hand.own) is ∙ ap (λ (x : Hand). x.own) w.works.rest);
       gone = λ object. e.gone object ∙ ap (λ (ws : List OwnWrite). header_of (drop 1 ws) object) own_same;
       rest = ap (λ (x : Hand). record w.seat { hand = x; latches = 0 }) rest_mid;
     };

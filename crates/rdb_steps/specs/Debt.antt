@@ -30,7 +30,7 @@ repair_debt manager seat =
     let undo = length seat.hand.undo.pairs in
     if is_marked seat then own + 1 + (if seat.latches == 0 then 0 else 1)
     else (if is_dropping seat.hand then length seat.hand.plan.pairs + (own - version_steps) + 2
-    else (if not (undo == 0) then undo + own + 1
+    else (if not (undo == 0) then undo + own + 2
     else (if not (is_written seat.hand) || not (seat.latches == 0) then own + 2 else own + 1)))
 
 -- what is left of an operation in work: its own plan, or what may come before it, the drops of its class's versions and the grants of pages

@@ -9,6 +9,10 @@ pub mod Making
 pub mod States
 pub mod Moves
 pub mod Steps
+pub mod Planning
+pub mod Laid
 pub mod Rooms
 pub mod LaidPlans
 pub mod Written
+pub mod Stamps
+pub mod Repairs

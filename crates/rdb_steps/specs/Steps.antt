@@ -10,6 +10,7 @@ use Rattle.rdb_base.specs.declared.operation.Op.{Op}
 use Rattle.rdb_base.specs.declared.operation.Op.TheVariants as op
 use Rattle.rdb_base.specs.declared.operation.Reply.{Reply}
 use Rattle.rdb_base.specs.declared.operation.Reply.TheVariants as reply
+use Rattle.rdb_base.specs.Room.{Reserved}
 use Rattle.rdb_pages.specs.declared.cell.CellRef.{CellRef}
 use Rattle.rdb_registry.specs.declared.hand.Hand.{Hand}
 use Rattle.rdb_registry.specs.declared.hand.Work.{Work}
@@ -115,6 +116,14 @@ pub record EndsWork (manager : Manager) (before after : Roll) (c : ConnId) (resu
   pub finishes : Finishes seat.hand hand work version
   pub records : after ≡ record before { seats = released manager (with_hand before.seats c.slot hand) c.slot }
 
+-- the own writes without the first; its place becomes room
+abbrev pub without_first : Reserved OwnWrite → Reserved OwnWrite
+without_first own = record { items = drop 1 own.items; room = own.room + 1 }
+
+-- the hand without its first own write
+abbrev pub forgetting_first : Hand → Hand
+forgetting_first hand = record hand { own = without_first hand.own }
+
 -- The first own write of a connection is forgotten, and its latches are given up.
 pub record ForgetsFirst (before after : Roll) (c : ConnId) : Type 0 where
   pub seat : Seat
@@ -123,6 +132,7 @@ pub record ForgetsFirst (before after : Roll) (c : ConnId) : Type 0 where
   pub held : seat_of before.seats c ≡ Some seat
   pub there : slice_get seat.hand.own.items 0 ≡ Some first
   pub rest : hand ≡ record seat.hand { own = hand.own }
+  pub left : hand.own ≡ without_first seat.hand.own
   pub gone : (object : ℕ × ℕ) → header_of hand.own.items object ≡ header_of (drop 1 seat.hand.own.items) object
   pub others : (object : ℕ × ℕ) → object ≢ (first.class, first.id) → header_of hand.own.items object ≡ header_of seat.hand.own.items object
   pub records : after ≡ record before { seats = changed (with_hand before.seats c.slot hand) c.slot (with_latches 0) }

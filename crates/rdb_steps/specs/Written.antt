@@ -17,7 +17,7 @@ use Rattle.rdb_space.specs.Memory.{RegionCells, image_of}
 use Rattle.rdb_writes.specs.Steps.{spans_one_plan}
 use Rattle.rdb_steps.specs.declared.state.State.{State}
 use Rattle.rdb_steps.specs.Debt.{debt}
-use Rattle.rdb_steps.specs.Steps.{Finishes, is_at_last, forgetting_own, seat_at}
+use Rattle.rdb_steps.specs.Steps.{Finishes, is_at_last, forgetting_own, seat_at, without_first}
 
 -- with the next cell of the plan the undo record is emptied, which spanned that plan
 abbrev pub is_emptied : Manager → Hand → Bool
@@ -64,6 +64,7 @@ pub record WritesWork (manager : Manager) (before after : RegionCells) (seats se
 pub record ForgetsIn (seat : Seat) (written : Hand) (now : Seat) : Type 0 where
   pub first : OwnWrite
   pub was : slice_get seat.hand.own.items 0 ≡ Some first
+  pub left : now.hand.own ≡ without_first seat.hand.own
   pub gone : (object : ℕ × ℕ) → header_of now.hand.own.items object ≡ header_of (drop 1 seat.hand.own.items) object
   pub rest : now ≡ record seat { hand = record written { own = now.hand.own }; latches = 0 }
 

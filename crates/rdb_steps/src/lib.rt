@@ -5,21 +5,28 @@
 //! | Step              | Function               | Law                                    | Settled                      | Aimed at                     |
 //! |-------------------|------------------------|----------------------------------------|------------------------------|------------------------------|
 //! | a cell of a plan  | `write_work`, `write_drop` | `a_written_cell_leaves_the_lists`  | stay; at last those aimed at | stay                         |
-//! | a pair taken back | `take_newest_back`     | `a_cell_taken_back_leaves_the_settled` | stay                         | no longer spoken of          |
-//! | a stamp           | –                      | `a_stamp_leaves_that_stamp`            | with that stamp              | with that stamp              |
+//! | a pair taken back | `take_newest_back`, `repair_newest` | `a_cell_taken_back_leaves_the_settled` | stay            | no longer spoken of          |
+//! | a stamp           | `stamp_first`          | `a_stamp_leaves_that_stamp`            | with that stamp              | with that stamp              |
 //! | a page            | `grant`                | `cells_that_come_leave_the_lists`      | stay                         | stay                         |
 //! | latches           | –                      | `latches_leave_the_settled`            | stay                         | stay, or no longer spoken of |
-//! | a plan            | –                      | `a_plan_aims_where_it_leads`, and those of `plan_laws` | stay         | where the store's plan leads |
-//! | a plan given up   | –                      | `a_plan_given_up_leaves_the_settled`   | stay                         | no longer spoken of          |
+//! | a plan            | `plan_operation`, `plan_drop`, `plan_own_drop` | `a_plan_aims_where_it_leads`, and those of `plan_laws` | stay | where the store's plan leads |
+//! | a plan given up   | `release`              | `a_plan_given_up_leaves_the_settled`   | stay                         | no longer spoken of          |
 //! | a mark            | –                      | `a_mark_settles_what_was_aimed_at`     | those aimed at               | stay                         |
 #![tactic(auto)]
 
+mod drop_plan;
 mod finish;
 mod grant;
 mod laws;
+mod laying;
 mod moves;
+mod own_drop;
+mod own_plan;
 mod plan_laws;
+mod release;
+mod repair;
 mod rooms;
+mod stamp;
 mod state;
 mod take_back;
 mod write;
@@ -44,7 +51,8 @@ pub use plan_laws::{
 };
 pub use rooms::{
     a_condemnation_keeps_rooms, a_connection_that_closes_keeps_rooms,
-    a_connection_that_comes_keeps_rooms, a_mark_keeps_rooms, a_roll_back_that_begins_keeps_rooms,
-    what_is_told_keeps_rooms,
+    a_connection_that_comes_keeps_rooms, a_connection_that_is_repaired_keeps_rooms,
+    a_mark_keeps_rooms, a_roll_back_that_begins_keeps_rooms, a_transaction_that_begins_keeps_rooms,
+    a_transaction_that_ends_keeps_rooms, what_is_told_keeps_rooms,
 };
 pub use state::{Counters, State};

@@ -6,7 +6,7 @@ ghost use Rattle.rdb_base.specs.declared.identity.Phase.TheVariants as phase;
 ghost use Rattle.rdb_steps.specs.Lists.{the_settled};
 ghost use Rattle.rdb_steps.specs.States.{IsKeptSomehow, IsWhole};
 ghost use Rattle.rdb_steps.specs.Steps.{KeepsAs, OnlyRecord, WritesOne, aimed_by_taking_back, forgetting_own, seat_at};
-ghost use Rattle.rdb_steps.specs.Written.{KeepsCounts, TakenBack};
+ghost use Rattle.rdb_steps.specs.Written.{ComesNearer, KeepsCounts, TakenBack};
 ghost use Rattle.rdb_writes.specs.Steps.{spans_one_plan};
 
 use crate::state::State;
@@ -31,6 +31,7 @@ impl<P: Pages> State<P> {
         ensures record { OnlyRecord self.old self.new c }
         ensures becomes { TakenBack self.old self.new c }
         ensures counts { KeepsCounts self.old self.new }
+        ensures nearer { ComesNearer self.old self.new c }
         ensures whole { IsWhole self.new }
     {
         self.transactions.registry.sound();

@@ -9,7 +9,7 @@ ghost use Rattle.rdb_registry.specs.Seats.{IsHeld, seat_of};
 ghost use Rattle.rdb_steps.specs.Kept.{is_dropping};
 ghost use Rattle.rdb_steps.specs.Lists.{the_aimed};
 ghost use Rattle.rdb_steps.specs.States.{IsKeptSomehow, IsWhole};
-ghost use Rattle.rdb_steps.specs.Steps.{KeepsAs, OnlyRecord, WritesOne, EndsWork, ForgetsFirst, seat_at, settled_by_writing, reply_next, version_at};
+ghost use Rattle.rdb_steps.specs.Steps.{KeepsAs, OnlyRecord, WritesOne, EndsWork, ForgetsFirst, seat_at, settled_by_writing, reply_next, version_at, without_first};
 ghost use Rattle.rdb_steps.specs.Written.{ComesNearer, KeepsCounts, WrittenDrop, WrittenWork};
 
 use crate::finish::finish;
@@ -68,6 +68,7 @@ impl<P: Pages> State<P> {
         ensures record { OnlyRecord self.old self.new c }
         ensures becomes { WrittenDrop self.old self.new c }
         ensures counts { KeepsCounts self.old self.new }
+        ensures nearer { ComesNearer self.old self.new c }
         ensures whole { IsWhole self.new }
     {
         self.transactions.registry.sound();
@@ -130,10 +131,10 @@ fn forget_first(registry: &mut Registry, c: ConnId)
     registry.release_latches(c);
 }
 
-// Forgets the first own write, which there is.
-fn remove_first(own: &mut OwnWrites)
+/// Forgets the first own write, which there is. The cost grows with the own writes.
+pub(crate) fn remove_first(own: &mut OwnWrites)
     requires { own.old.items ≢ [] }
-    ensures { (first : OwnWriteValue) × (slice_get own.old.items 0 ≡ Some first)
+    ensures { (first : OwnWriteValue) × (slice_get own.old.items 0 ≡ Some first) × (own.new ≡ without_first own.old)
         × ((object : ℕ × ℕ) → header_of own.new.items object ≡ header_of (drop 1 own.old.items) object)
         × ((object : ℕ × ℕ) → object ≢ (first.class, first.id) → header_of own.new.items object ≡ header_of own.old.items object) }
 {
@@ -142,6 +143,7 @@ fn remove_first(own: &mut OwnWrites)
         Some(first) => {
             let first = *first;
             own.remove(first.class, first.id);
+            own.ordered();
         }
         None => unreachable!(),
     }

@@ -1,11 +1,8 @@
 use Rattle.std.proofs.Common.{◌≡◌, ◌∷◌, [], List, Option, Some, None, slice_get, refl, sym}
 use Rattle.rdb_registry.specs.declared.own_writes.OwnWrite.{OwnWrite}
 use Rattle.rdb_steps.proofs.FirstLemmas.{first_gone}
+use Rattle.rdb_steps.proofs.OrderedLemmas.{first_left, no_first}
 use Rattle.rdb_steps.proofs.write.remove_first.Goals as goal
-
-no_first : (own : List OwnWrite) → ◌≡◌ {A = Option OwnWrite} None (slice_get own 0) → own ≡ []
-no_first [] e = refl
-no_first (w ∷ ws) e = let none : ◌≡◌ {A = Option OwnWrite} None (Some w) = e in absurd cc
 
 pub unreachable-requires : goal.unreachable-requires
 unreachable-requires c = c.requires (no_first c.args.own.now.items c.in-None.ensures)
@@ -15,4 +12,4 @@ returns c =
     let own = c.args.own.now.items in
     let first = c.in-Some.first.now in
     let there : slice_get own 0 ≡ Some first = sym c.in-Some.ensures in
-    (first, there, first_gone own c.remove.new.self.items first there c.ordered.ensures c.remove.ensures.here c.remove.ensures.others, c.remove.ensures.others)
+    (first, there, first_left c.args.own.now c.remove.new.self first there c.ordered.ensures c.ordered-in-Some.ensures c.remove.ensures.here c.remove.ensures.others c.remove.ensures.room, first_gone own c.remove.new.self.items first there c.ordered.ensures c.remove.ensures.here c.remove.ensures.others, c.remove.ensures.others)

@@ -1,6 +1,7 @@
 use Rattle.std.proofs.Common.{refl, ◌≡◌, []}
 use Rattle.rdb_registry.specs.declared.hand.Hand.{Hand}
 use Rattle.rdb_steps.proofs.StateWrites.{only_on, only_forgot, drop_goes_on, drop_ends, has_first, room_mid, writes_one}
+use Rattle.rdb_steps.proofs.NearDrops.{drop_nearer}
 use Rattle.rdb_steps.proofs.WrittenLemmas.{drop_becomes, drop_forgets}
 use Rattle.rdb_steps.proofs.WholeSteps.{whole_forgot, whole_on}
 use Rattle.rdb_steps.proofs.state.State.write_drop.Goals as goal
@@ -68,6 +69,22 @@ returns-else-is_last-clause-becomes g c =
     let s = c.args.self.now in
     drop_becomes s.transactions.manager s.memory c.write_next-is_last.new.cells s.transactions.registry c.write_next-is_last.new.registry
     c.args.c c.write_next-is_last.result c.write_next-is_last.ensures.written c.if-is_last.false
+
+pub returns-then-is_last-clause-nearer : goal.returns-then-is_last-clause-nearer
+returns-then-is_last-clause-nearer g c =
+    let s = c.args.self.now in
+    drop_nearer s.schema s.transactions.manager s.counters.serials s.counters.ids.items s.memory c.write_next-is_last.new.cells s.transactions.registry c.forget_first.new.registry.seats c.args.c
+    c.requires.kept.0 c.requires.kept.1 c.requires.kept.2 c.requires.dropping
+    (drop_forgets s.transactions.manager s.memory c.write_next-is_last.new.cells s.transactions.registry c.write_next-is_last.new.registry
+    c.args.c c.write_next-is_last.result c.write_next-is_last.ensures.written c.if-is_last.true c.forget_first.new.registry c.forget_first.ensures)
+
+pub returns-else-is_last-clause-nearer : goal.returns-else-is_last-clause-nearer
+returns-else-is_last-clause-nearer g c =
+    let s = c.args.self.now in
+    drop_nearer s.schema s.transactions.manager s.counters.serials s.counters.ids.items s.memory c.write_next-is_last.new.cells s.transactions.registry c.write_next-is_last.new.registry.seats c.args.c
+    c.requires.kept.0 c.requires.kept.1 c.requires.kept.2 c.requires.dropping
+    (drop_becomes s.transactions.manager s.memory c.write_next-is_last.new.cells s.transactions.registry c.write_next-is_last.new.registry
+    c.args.c c.write_next-is_last.result c.write_next-is_last.ensures.written c.if-is_last.false)
 
 pub returns-then-is_last-clause-counts : goal.returns-then-is_last-clause-counts
 returns-then-is_last-clause-counts g c = record { counters = refl; journal = refl; claims = refl; spare = refl; manager = refl; schema = refl; store = refl }
