@@ -159,14 +159,20 @@ fn equal_compares_few(rt: &impl Abort, keys: &KeyTable, versions: usize, found: 
     let most = most_levels(versions)
         .saturating_mul(a_level)
         .saturating_add(found);
-    assert!(rt; keys.compared.get() <= most, "equal compares more than {most}");
+    assert!(rt;
+        keys.compared.get() <= most,
+        "equal compares more than {most}"
+    );
 }
 
 /// Stops the test where more was compared for so many changes than, for each, all keys of one node of each level.
 fn changes_compare_few(rt: &impl Abort, keys: &KeyTable, versions: usize, changes: usize) {
     let each = most_levels(versions).saturating_mul(MOST_KEYS);
     let most = each.saturating_mul(changes);
-    assert!(rt; keys.compared.get() <= most, "changes compare more than {most}");
+    assert!(rt;
+        keys.compared.get() <= most,
+        "changes compare more than {most}"
+    );
 }
 
 /// Compares the look-ups by the key and the id of an entry with the sorted entries.
