@@ -4,3 +4,6 @@ pub mod Fitting
 pub mod LineLemmas
 pub mod LastLine
 pub mod VerdictLemmas
+pub mod Feedless
+pub mod WholeLines
+pub mod ReadBack

@@ -1,6 +1,7 @@
 //! Reads whole reports back, line by line, and judges their journals. It reads and writes no file.
 #![tactic(auto)]
 
+pub mod laws;
 mod line_reader;
 mod progress;
 pub mod reader;
