@@ -7,3 +7,4 @@ pub mod VerdictLemmas
 pub mod Feedless
 pub mod WholeLines
 pub mod ReadBack
+pub mod SameLines

@@ -20,7 +20,7 @@ use Rattle.rdb_audit.specs.declared.progress.ReportLine.{ReportLine}
 use Rattle.rdb_audit.specs.declared.progress.ReportLine.TheVariants as says
 use Rattle.rdb_audit.specs.Grammar.{entries, is_last, text_of}
 
-head_not_indented : (e : Entry) (r : List ℕ) → head_line e ≡ codes "  " ++ r → ⊥
+pub head_not_indented : (e : Entry) (r : List ℕ) → head_line e ≡ codes "  " ++ r → ⊥
 head_not_indented (entry.Commit story commit) r e = absurd (let other : 99 ≡ 32 = ap (λ (t : List ℕ). get_or t 0 0) e in omega arith)
 head_not_indented (entry.Read story) r e = absurd (let other : 114 ≡ 32 = ap (λ (t : List ℕ). get_or t 0 0) e in omega arith)
 head_not_indented (entry.Abort story why) r e = absurd (let other : 97 ≡ 32 = ap (λ (t : List ℕ). get_or t 0 0) e in omega arith)

@@ -20,6 +20,7 @@ use Rattle.rdb_journal.specs.Lines.{head_line, operation_line, steps_of, entry_l
 use Rattle.rdb_journal.specs.Endings.{client_line, note_line, client_lines}
 use Rattle.rdb_journal.specs.Report.{totals_line, clients_lines, report_lines, report}
 use Rattle.rdb_report_lines.specs.Printed.{IsPrintableHead, IsPrintableStep, IsPrintableEnd, IsPrintableNote, kind_of}
+use Rattle.rdb_report_lines.specs.Heads.{bare}
 use Rattle.rdb_audit.specs.declared.progress.Section.TheVariants as section
 use Rattle.rdb_audit.specs.declared.progress.ReportLine.{ReportLine}
 use Rattle.rdb_audit.specs.declared.progress.ReportLine.TheVariants as says
@@ -113,14 +114,6 @@ runs_joined : (schema : Schema) (p q end : Progress) (xs ys : List (List ℕ)) �
 runs_joined schema p q end [] ys h on = subst (λ (at : Progress). Runs schema at ys end) h on
 runs_joined schema p q end (x ∷ xs) ys h on = (h.0, h.1, runs_joined schema h.0 q end xs ys h.2 on)
 
--- an entry before its first operation
-abbrev bare : Entry → Entry
-bare (entry.Commit story commit) = entry.Commit (record story { done = [] }) commit
-bare (entry.Read story) = entry.Read (record story { done = [] })
-bare (entry.Abort story why) = entry.Abort (record story { done = [] }) why
-bare (entry.Handled client by at finished) = entry.Handled client by at finished
-bare (entry.Closed client) = entry.Closed client
-
 bare_line : (e : Entry) → head_line e ≡ head_line (bare e)
 bare_line (entry.Commit story commit) = refl
 bare_line (entry.Read story) = refl
@@ -143,7 +136,7 @@ bare_steps (entry.Handled client by at finished) = refl
 bare_steps (entry.Closed client) = refl
 
 -- an entry with operations more
-abbrev with_steps : List (Op × Reply) → Entry → Entry
+abbrev pub with_steps : List (Op × Reply) → Entry → Entry
 with_steps [] e = e
 with_steps (step ∷ steps) e = with_steps steps (with_step step e)
 
@@ -160,7 +153,7 @@ grown make one (step ∷ steps) story =
     ap (with_steps steps) (one step story) ∙ grown make one steps (longer story step)
     ∙ ap (λ (done : List (Op × Reply)). make (record story { done = done })) (append_assoc story.done (step ∷ []) steps)
 
-restored : (e : Entry) → with_steps (steps_of e) (bare e) ≡ e
+pub restored : (e : Entry) → with_steps (steps_of e) (bare e) ≡ e
 restored (entry.Commit story commit) = grown (λ (s : Story). entry.Commit s commit) (λ step s. refl) story.done (record story { done = [] })
 restored (entry.Read story) = grown (λ (s : Story). entry.Read s) (λ step s. refl) story.done (record story { done = [] })
 restored (entry.Abort story why) = grown (λ (s : Story). entry.Abort s why) (λ step s. refl) story.done (record story { done = [] })

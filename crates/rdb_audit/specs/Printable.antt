@@ -1,12 +1,12 @@
 -- What a report can print: a journal, what became of its clients, and what their watches and polls were told.
-use Rattle.std.specs.Prelude.{◌≡◌, ℕ, ◌<◌, ◌^◌, List, length, All, Some}
+use Rattle.std.specs.Prelude.{◌≡◌, ℕ, ◌<◌, ◌^◌, List, length, flat_map, All, Some}
 use Rattle.rdb_schema.specs.declared.schema.Schema.{Schema}
 use Rattle.rdb_schema.specs.Schemas.{IsSchema}
 use Rattle.rdb_base.specs.declared.identity.Kind.{Kind}
 use Rattle.rdb_base.specs.declared.journal.Entry.{Entry}
 use Rattle.rdb_journal.specs.declared.endings.End.{End}
 use Rattle.rdb_journal.specs.declared.endings.Note.{Note}
-use Rattle.rdb_journal.specs.Lines.{steps_of}
+use Rattle.rdb_journal.specs.Lines.{steps_of, entry_lines}
 use Rattle.rdb_journal.specs.Report.{report}
 use Rattle.rdb_report_lines.specs.Printed.{IsPrintableHead, IsPrintableStep, IsPrintableEnd, IsPrintableNote, kind_of}
 use Rattle.rdb_audit.specs.Grammar.{IsReport}
@@ -28,3 +28,9 @@ abbrev pub ReportsAreReadBack : Type 0
 ReportsAreReadBack =
     (schema : Schema) (journal : List Entry) (ends : List End) (notes : List (List Note)) → IsSchema schema
     → IsPrintable schema journal ends notes → IsReport schema (report schema journal ends notes) journal
+
+-- journals that can be printed and have the same lines are one
+abbrev pub LinesTellJournals : Type 0
+LinesTellJournals =
+    (schema : Schema) → IsSchema schema → (one other : List Entry) → All (IsPrintableEntry schema) one
+    → All (IsPrintableEntry schema) other → flat_map (entry_lines schema) one ≡ flat_map (entry_lines schema) other → one ≡ other

@@ -9,3 +9,8 @@ pub mod StepLemmas
 pub mod TextForms
 pub mod IdLemmas
 pub mod ReplyLemmas
+pub mod ValueTells
+pub mod OperationTells
+pub mod ReplyTells
+pub mod HeadTells
+pub mod StepTells

@@ -5,6 +5,7 @@
 pub mod client_reader;
 mod fronts;
 pub mod head_reader;
+pub mod laws;
 mod operation_reader;
 mod reply_reader;
 pub mod step_reader;
