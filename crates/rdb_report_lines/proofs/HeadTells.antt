@@ -6,10 +6,11 @@ use Rattle.rdb_base.specs.declared.journal.Cause.TheVariants as cause
 use Rattle.rdb_base.specs.declared.journal.Entry.{Entry}
 use Rattle.rdb_base.specs.declared.journal.Entry.TheVariants as entry
 use Rattle.rdb_literals.specs.Spelling.{BeginsNoDigit}
-use Rattle.rdb_journal.specs.Lines.{cause_text, head_line}
+use Rattle.rdb_journal.specs.Lines.{story_text, cause_text, head_line}
 use Rattle.rdb_report_lines.specs.Heads.{bare}
 use Rattle.rdb_report_lines.specs.Printed.{IsNarrow, IsWide, IsPrintableStory, IsPrintableCause, IsPrintableHead}
 use Rattle.rdb_report_lines.proofs.HeadLemmas.{abort_form}
+use Rattle.rdb_report_lines.proofs.Joined.{four, six}
 use Rattle.rdb_report_lines.proofs.ValueTells.{decimal_tells}
 
 wide : (n : ℕ) → IsNarrow n → IsWide n
@@ -27,7 +28,10 @@ origin_tells one other r s p q a b e =
     (client.0, number.0, begun.0, begun.1)
 
 commit_form : (story : Story) (commit : ℕ) → head_line (entry.Commit story commit) ≡ codes "commit " ++ (decimal commit ++ (codes " client " ++ origin_then story (codes " snapshot " ++ (decimal story.snapshot ++ codes "\n"))))
-commit_form story commit = simp append_assoc
+commit_form story commit =
+    append_assoc (codes "commit " ++ decimal commit ++ story_text story ++ codes " snapshot ") (decimal story.snapshot) (codes "\n")
+    ∙ four (codes "commit ") (decimal commit) (story_text story) (codes " snapshot ") (decimal story.snapshot ++ codes "\n")
+    ∙ ap (λ (t : List ℕ). codes "commit " ++ (decimal commit ++ t)) (six (codes " client ") (decimal story.client) (codes " tx ") (decimal story.number) (codes " begun ") (decimal story.begun) (codes " snapshot " ++ (decimal story.snapshot ++ codes "\n")))
 
 read_form : (story : Story) → head_line (entry.Read story) ≡ codes "read client " ++ origin_then story (codes " at " ++ (decimal story.snapshot ++ codes "\n"))
 read_form story = simp append_assoc

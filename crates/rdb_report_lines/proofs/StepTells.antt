@@ -1,5 +1,5 @@
 -- The line of an operation and its reply tells both.
-use Rattle.std.proofs.Common.{◌≡◌, List, ◌++◌, drop, codes, sym, ap, ◌∙◌, subst}
+use Rattle.std.proofs.Common.{◌≡◌, ℕ, List, ◌++◌, drop, codes, sym, ap, ◌∙◌, subst}
 use Rattle.rdb_schema.specs.declared.schema.Schema.{Schema}
 use Rattle.rdb_schema.specs.Schemas.{IsSchema}
 use Rattle.rdb_base.specs.declared.identity.Kind.{Kind}

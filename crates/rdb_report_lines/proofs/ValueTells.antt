@@ -144,6 +144,9 @@ escaped_tells b c r s e = by (piece_of b) (piece_of c)
     by (inr (inr p)) (inr (inl q)) = let h = from_to (b ∷ []) (92 ∷ 120 ∷ digit_glyph false (c / 16) ∷ digit_glyph false (c % 16) ∷ []) p.2 q.1 in absurd (p.1 (ap (λ (t : List ℕ). get_or t 0 0) h))
     by (inr (inr p)) (inr (inr q)) = let h = from_to (b ∷ []) (c ∷ []) p.2 q.2 in (ap (λ (t : List ℕ). get_or t 0 0) h, ap (λ (t : List ℕ). drop 1 t) h)
 
+no_slash_quote : (n : ℕ) → n ≡ 92 → n ≡ 34 → ⊥
+no_slash_quote n e f = absurd (omega arith)
+
 no_quote_first : (byte : ℕ) (r t : List ℕ) → escaped byte ++ r ≡ 34 ∷ t → ⊥
 no_quote_first byte r t e = by (piece_of byte)
   where
@@ -151,8 +154,8 @@ no_quote_first byte r t e = by (piece_of byte)
     from x f = ap (λ (u : List ℕ). u ++ r) (sym f) ∙ e
 
     by : IsMarked byte ⊎ IsHex byte ⊎ IsItself byte → ⊥
-    by (inl p) = let same : 92 ≡ 34 = ap (λ (t : List ℕ). get_or t 0 0) (from (92 ∷ byte ∷ []) p.1) in absurd (omega arith)
-    by (inr (inl p)) = let same : 92 ≡ 34 = ap (λ (t : List ℕ). get_or t 0 0) (from (92 ∷ 120 ∷ digit_glyph false (byte / 16) ∷ digit_glyph false (byte % 16) ∷ []) p.1) in absurd (omega arith)
+    by (inl p) = no_slash_quote 92 refl (ap (λ (t : List ℕ). get_or t 0 0) (from (92 ∷ byte ∷ []) p.1))
+    by (inr (inl p)) = no_slash_quote 92 refl (ap (λ (t : List ℕ). get_or t 0 0) (from (92 ∷ 120 ∷ digit_glyph false (byte / 16) ∷ digit_glyph false (byte % 16) ∷ []) p.1))
     by (inr (inr p)) = let same : byte ≡ 34 = ap (λ (t : List ℕ). get_or t 0 0) (from (byte ∷ []) p.2) in p.0 same
 
 words_tell : (words others : List ℕ) (r s : List ℕ) → flat_map escaped words ++ (34 ∷ r) ≡ flat_map escaped others ++ (34 ∷ s) → (words ≡ others) × (r ≡ s)
