@@ -2,7 +2,8 @@
 use Rattle.std.proofs.Common.{◌≡◌, inl, inr, List, [], ◌∷◌, sym, ap, ◌∙◌}
 use Rattle.rdb_runner.specs.AuditFile.{audit_names}
 use Rattle.rdb_runner.specs.Command.{IsNoCommandLine, replays, audits, checks, unbuilt, task_of, AsksFor, AsksToAudit, AsksToCheck, AsksForFiles}
-use Rattle.rdb_runner.specs.CommandLine.{Word, Command, IsCommandLine}
+use Rattle.rdb_words.specs.Grammar.{Word}
+use Rattle.rdb_runner.specs.CommandLine.{Command, IsCommandLine}
 use Rattle.rdb_runner.proofs.CommandLineMeaning.{one_line}
 
 -- words ask for one task

@@ -1,14 +1,17 @@
 -- How a command ends is how the words end that ask for it.
-use Rattle.std.proofs.Common.{◌≡◌, ℕ, inl, inr, List, [], ◌∷◌, length, Bor, get_or, refl, sym, ◌∙◌, subst, arith}
+use Rattle.std.proofs.Common.{◌≡◌, ◌==◌, ℕ, Bool, true, false, inl, inr, List, [], ◌∷◌, length, Bor, get_or, refl, sym, ◌∙◌, subst, arith}
+use Rattle.std.specs.Bool.{OnTrue, OnFalse}
+use Rattle.std.proofs.lemmas.Bool.{eqb-true, false≢true}
 use Rattle.rdb_runner.specs.declared.command_line.Settings.{Settings}
 use Rattle.rdb_runner.specs.declared.status.Status.{Status}
 use Rattle.rdb_runner.specs.declared.status.Status.TheVariants.{Usage, CutOff, NoMemory, NotBuilt}
-use Rattle.rdb_runner.specs.Command.{IsNoCommandLine, usage_line, not_built_line, Task, unbuilt, task_of, SeesNothing, UsageOwes, UnbuiltOwes, IsBuilt, CommandEnds, TaskEnds, WordsEnd}
-use Rattle.rdb_runner.specs.CommandLine.{Word, Command, replay, IsCommandLine, texts}
+use Rattle.rdb_runner.specs.Command.{IsNoCommandLine, usage_line, not_built_line, Task, unbuilt, task_of, files_of_task, SeesNothing, UsageOwes, UnbuiltOwes, IsBuilt, CommandEnds, TaskEnds, WordsEnd}
+use Rattle.rdb_words.specs.Grammar.{Word, texts}
+use Rattle.rdb_runner.specs.CommandLine.{Command, replay, IsCommandLine}
 use Rattle.rdb_runner.specs.Ending.{Ends}
 use Rattle.rdb_runner.specs.Reading.{Sight}
 use Rattle.rdb_runner.specs.Statuses.{number_of}
-use Rattle.rdb_runner.specs.Telling.{Ink, Tells}
+use Rattle.rdb_runner.specs.Telling.{Ink, Tells, IsSilent}
 use Rattle.rdb_runner.proofs.CommandLineMeaning.{one_line}
 use Rattle.rdb_runner.proofs.EndingLemmas.{one_status, told_by, asks_none}
 
@@ -41,6 +44,39 @@ unbuilt_ends command sight ink answer none sees (status, is, tells) =
       told = told_by (UnbuiltOwes command sight) ink NotBuilt (not_built_line command) status (refl, sees) (λ h. h) tells;
       asked = asks_none [] sight sees.0;
     })
+
+-- a command for whose reading memory is wanting, before anything was seen or written
+pub unread_ends : (command : Command) (sight : Sight) (ink : Ink) (answer : ℕ) → answer ≡ number_of NoMemory → SeesNothing sight → IsSilent ink → CommandEnds command sight ink answer
+unread_ends command sight ink answer is sees silent = record {
+  status = NoMemory;
+  number = is;
+  told = silent;
+  asked = asks_none (files_of_task (task_of command)) sight sees.0;
+}
+
+-- a fact of `true`, or of `false`, and back
+pub when_true : (b : Bool) (P : Type 0) → (b ≡ true → P) → OnTrue b P
+when_true true P f = f refl
+when_true false P f = tt
+
+pub when_false : (b : Bool) (P : Type 0) → (b ≡ false → P) → OnFalse b P
+when_false true P f = tt
+when_false false P f = f refl
+
+pub is_true : (b : Bool) (P : Type 0) → OnTrue b P → b ≡ true → P
+is_true true P fact e = fact
+is_true false P fact e = absurd (false≢true e)
+
+-- a replay of one client is built, and no other is
+pub one_client_is_built : (settings : Settings) (schema schedule : List ℕ) (clients : List (Bor Word)) → (length clients == 1) ≡ true → IsBuilt (task_of (replay settings schema schedule (texts clients)))
+one_client_is_built settings schema schedule [] one = absurd (omega (arith, eqb-true 0 1 one))
+one_client_is_built settings schema schedule (c ∷ []) one = tt
+one_client_is_built settings schema schedule (c ∷ d ∷ clients) one = let is = eqb-true (length (c ∷ d ∷ clients)) 1 one in absurd (omega arith)
+
+pub others_are_unbuilt : (settings : Settings) (schema schedule : List ℕ) (clients : List (Bor Word)) → (length clients == 1) ≡ false → task_of (replay settings schema schedule (texts clients)) ≡ unbuilt
+others_are_unbuilt settings schema schedule [] other = refl
+others_are_unbuilt settings schema schedule (c ∷ []) other = absurd (false≢true (sym other))
+others_are_unbuilt settings schema schedule (c ∷ d ∷ clients) other = refl
 
 -- such a line takes no memory
 pub answers_without_memory : (own : Status) (line : List ℕ) (ink : Ink) (answer : ℕ) → (own ≡ NoMemory → ⊥) → Answers own line ink answer → answer ≡ number_of NoMemory → ⊥

@@ -1,70 +1,15 @@
--- Words give one thing only, and what is given means one command.
-use Rattle.std.proofs.Common.{◌≡◌, ℕ, ◌≤◌, Bool, true, false, List, [], ◌∷◌, ◌++◌, length, Option, Some, None, codes, slice_index, refl, sym, ap, ◌∙◌, inl, inr, subst, arith}
-use Rattle.std.specs.List.{flat_map}
-use Rattle.std.specs.Option.{option_to_list}
+-- What is given means one command.
+use Rattle.std.proofs.Common.{◌≡◌, ℕ, ◌≤◌, ◌<◌, List, [], ◌∷◌, length, Option, Some, None, slice_index, refl, sym, ap, ◌∙◌, subst, arith}
+use Rattle.std.specs.Char.{digit_value}
+use Rattle.std.specs.Str.Parse.{IsNumeral}
 use Rattle.rdb_base.specs.declared.identity.Manager.{Manager}
 use Rattle.rdb_base.specs.declared.identity.Manager.TheVariants.{Mursiw, Mvcc}
+use Rattle.rdb_words.specs.Grammar.{Word, Given, Gives}
+use Rattle.rdb_words.specs.SimpleCommand.{IsPlainValue, IsReadable}
+use Rattle.rdb_words.proofs.OneMeaning.{one_given}
+use Rattle.rdb_words.proofs.Parts.{same_head, same_tail}
 use Rattle.rdb_runner.specs.declared.command_line.Settings.{Settings}
-use Rattle.rdb_runner.specs.CommandLine.{Word, Part, Given, Gives, BeginsWithAll, IsEnd, manager_in, pages_in, threads_in, name_in, flag_to_list, Command, replay, run, audit, check, job, word_of, Asks, AsksBy, IsCommandLine, HasSettings, IsManagerOf, ArePagesOf, word_of_manager}
-use Rattle.rdb_runner.proofs.CommandLineParts.{one_part, no_part, marked, same_head, same_tail}
-
-same_end : (words ns ms : List Word) → IsEnd words ns → IsEnd words ms → ns ≡ ms
-same_end words ns ms (inl (_, a)) (inl (_, b)) = a ∙ sym b
-same_end words ns ms (inl (e, _)) (inr f) = let h : [] ≡ codes "--" ∷ ms = sym e ∙ f in absurd (omega (arith, ap length h))
-same_end words ns ms (inr e) (inl (f, _)) = let h : codes "--" ∷ ns ≡ [] = sym e ∙ f in absurd (omega (arith, ap length h))
-same_end words ns ms (inr e) (inr f) = same_tail (sym e ∙ f)
-
--- words are cut into parts in one way
-one_split : (ps qs : List Part) (words r s ns ms : List Word)
-    → BeginsWithAll ps words r → IsEnd r ns → BeginsWithAll qs words s → IsEnd s ms → (ps ≡ qs) × (ns ≡ ms)
-one_split [] [] words r s ns ms a e b f =
-    (refl, same_end s ns ms (let P : List Word → Type 0 = λ ws. IsEnd ws ns in subst P (sym a ∙ b) e) f)
-one_split [] (q ∷ qs) words r s ns ms a e (between, b, _) f =
-    absurd (no_part q words between ns b (let P : List Word → Type 0 = λ ws. IsEnd ws ns in subst P (sym a) e))
-one_split (p ∷ ps) [] words r s ns ms (between, a, _) e b f =
-    absurd (no_part p words between ms a (let P : List Word → Type 0 = λ ws. IsEnd ws ms in subst P (sym b) f))
-one_split (p ∷ ps) (q ∷ qs) words r s ns ms (x, a, as') e (y, b, bs) f =
-    let same : (p ≡ q) × (x ≡ y) = one_part p q words x y a b (sym (marked p words x a) ∙ marked q words y b) in
-    let P : List Word → Type 0 = λ ws. BeginsWithAll ps ws r in
-    let others : (ps ≡ qs) × (ns ≡ ms) = one_split ps qs y r s ns ms (subst P same.1 as') e bs f in
-    (cc, others.1)
-
-same_option : (o p : Option Word) → option_to_list o ≡ option_to_list p → o ≡ p
-same_option None None e = refl
-same_option None (Some w) e = absurd (omega (arith, ap length e))
-same_option (Some v) None e = absurd (omega (arith, ap length e))
-same_option (Some v) (Some w) e = ap Some (same_head e)
-
-same_flag : (o p : Bool) → flag_to_list o ≡ flag_to_list p → o ≡ p
-same_flag true true e = refl
-same_flag false false e = refl
-same_flag true false e = absurd (omega (arith, ap length e))
-same_flag false true e = absurd (omega (arith, ap length e))
-
--- a `Given` of its four parts
-given_from : Option Word → Option Word → Bool → List Word → Given
-given_from m p t n = record { manager_value = m; pages_value = p; with_threads = t; names = n }
-
-same_given : (g h : Given) → g.manager_value ≡ h.manager_value → g.pages_value ≡ h.pages_value
-    → g.with_threads ≡ h.with_threads → g.names ≡ h.names → g ≡ h
-unfolding given_from
-same_given g h a b c d =
-    ap (λ x. given_from x g.pages_value g.with_threads g.names) a
-    ∙ ap (λ x. given_from h.manager_value x g.with_threads g.names) b
-    ∙ ap (λ x. given_from h.manager_value h.pages_value x g.names) c
-    ∙ ap (λ x. given_from h.manager_value h.pages_value h.with_threads x) d
-
--- words give one thing only
-pub one_given : (words : List Word) (g h : Given) → Gives words g → Gives words h → g ≡ h
-one_given words g h a b =
-    let same : (a.parts ≡ b.parts) × (a.last_names ≡ b.last_names) =
-    one_split a.parts b.parts words a.rest b.rest a.last_names b.last_names a.split a.end b.split b.end in
-    same_given g h
-    (same_option _ _ (sym a.manager_once ∙ ap (flat_map manager_in) same.0 ∙ b.manager_once))
-    (same_option _ _ (sym a.pages_once ∙ ap (flat_map pages_in) same.0 ∙ b.pages_once))
-    (same_flag _ _ (sym a.threads_once ∙ ap (flat_map threads_in) same.0 ∙ b.threads_once))
-    (sym a.all_names ∙ ap (λ ps. flat_map name_in ps ++ a.last_names) same.0
-    ∙ ap (λ ns. flat_map name_in b.parts ++ ns) same.1 ∙ b.all_names)
+use Rattle.rdb_runner.specs.CommandLine.{Command, replay, run, audit, check, job, word_of, Asks, AsksBy, IsCommandLine, IsWithinLimits, HasSettings, IsManagerOf, ArePagesOf, word_of_manager}
 
 -- a command takes 18 names at most
 pub few_names : (command : Command) (given : Given) → Asks command given → length given.names ≤ 18
@@ -73,6 +18,95 @@ few_names (run settings schema clients) given (_, _, e, few) = omega (arith, ap 
 few_names (audit schema report) given (_, _, e) = omega (arith, ap length e)
 few_names (check schema) given (_, _, e) = omega (arith, ap length e)
 few_names (job seed with_threads) given (_, _, word, e, _, _) = omega (arith, ap length e)
+
+-- a value that names a manager begins with no hyphen
+plain_manager : (o : Option Word) (chosen : Manager) → IsManagerOf o chosen → IsPlainValue o
+plain_manager None chosen is = tt
+plain_manager (Some v) Mursiw is = λ hyphen. let first : slice_index v 0 ≡ 109 = ap (λ w. slice_index w 0) is in omega arith
+plain_manager (Some v) Mvcc is = λ hyphen. let first : slice_index v 0 ≡ 109 = ap (λ w. slice_index w 0) is in omega arith
+
+-- nor does a number
+plain_number : (word : Word) → IsNumeral 10 word → slice_index word 0 ≡ 45 → ⊥
+plain_number [] numeral hyphen = let some = numeral.0 in omega arith
+plain_number (d ∷ ds) numeral hyphen =
+    let digit : digit_value 45 < 10 = subst (λ (c : ℕ). digit_value c < 10) hyphen numeral.1.0 in
+    omega arith
+
+plain_pages : (o : Option Word) (n : ℕ) → ArePagesOf o n → IsPlainValue o
+plain_pages None n is = tt
+plain_pages (Some v) n is = λ hyphen. plain_number v is.0.0 hyphen
+
+no_value : (o : Option Word) → o ≡ None → IsPlainValue o
+no_value o none = subst IsPlainValue (sym none) tt
+
+-- no value that is right for a command begins with a hyphen
+plain_values : (command : Command) (given : Given) → Asks command given → IsPlainValue given.manager_value × IsPlainValue given.pages_value
+plain_values (replay settings schema schedule clients) given asks = (plain_manager given.manager_value settings.manager asks.0.0, plain_pages given.pages_value settings.pages asks.0.1)
+plain_values (run settings schema clients) given asks = (plain_manager given.manager_value settings.manager asks.0.0, plain_pages given.pages_value settings.pages asks.0.1)
+plain_values (audit schema report) given asks = (no_value given.manager_value asks.0.0, no_value given.pages_value asks.0.1)
+plain_values (check schema) given asks = (no_value given.manager_value asks.0.0, no_value given.pages_value asks.0.1)
+plain_values (job seed with_threads) given asks = (no_value given.manager_value asks.0.0, no_value given.pages_value asks.0.1)
+
+-- what stands behind the command's word gives what the command line gives
+behind_gives : (words behind : List Word) (first : Word) (command : Command) (line : IsCommandLine words command) → words ≡ first ∷ behind → Gives behind line.given
+behind_gives words behind first command line e = subst (λ (ws : List Word). Gives ws line.given) (same_tail (sym line.begins ∙ e)) line.gives
+
+-- the words behind the command's word can be read
+pub readable : (words behind : List Word) (first : Word) (command : Command) → IsCommandLine words command → words ≡ first ∷ behind → IsReadable behind
+readable words behind first command line e = record {
+  given = line.given;
+  gives = behind_gives words behind first command line e;
+  manager_plain = (plain_values command line.given line.asks).0;
+  pages_plain = (plain_values command line.given line.asks).1;
+  few = few_names command line.given line.asks;
+}
+
+-- what is read of a command line asks for its command
+pub record AsksAgain (behind : List Word) (first : Word) (command : Command) (read : Given) : Type 0 where
+  pub gives : Gives behind read
+  pub asks : AsksBy first read command
+
+pub asks_again : (words behind : List Word) (first : Word) (command : Command) (read : Given) → IsCommandLine words command → words ≡ first ∷ behind
+    → ((given : Given) → Gives behind given → IsPlainValue given.manager_value → IsPlainValue given.pages_value → read ≡ given)
+    → AsksAgain behind first command read
+asks_again words behind first command read line e is =
+    let gives : Gives behind line.given = behind_gives words behind first command line e in
+    let plain : IsPlainValue line.given.manager_value × IsPlainValue line.given.pages_value = plain_values command line.given line.asks in
+    let same : read ≡ line.given = is line.given gives plain.0 plain.1 in
+    let P : Given → Type 0 = λ g. Gives behind g in
+    let Q : Given → Type 0 = λ g. Asks command g in
+    record {
+      gives = subst P (sym same) gives;
+      asks = (same_head (sym e ∙ line.begins), subst Q (sym same) line.asks);
+    }
+
+-- words that begin so, with what they give, are a command line
+pub line_of : (words behind : List Word) (first : Word) (given : Given) (command : Command) → words ≡ first ∷ behind → Gives behind given → AsksBy first given command → IsCommandLine words command
+line_of words behind first given command e gives asks = record {
+  given = given;
+  behind = behind;
+  begins = e ∙ ap (λ w. w ∷ behind) asks.0;
+  gives = gives;
+  asks = asks.1;
+}
+
+pages_within : (o : Option Word) (n : ℕ) → ArePagesOf o n → (1 ≤ n) × (n ≤ 16384)
+pages_within None n is = (omega arith, omega arith)
+pages_within (Some v) n (_, least, most) = (least, most)
+
+-- what is right for a command is within its limits
+pub within_limits : (command : Command) (given : Given) → Asks command given → IsWithinLimits command
+within_limits (replay settings schema schedule clients) given (has, _, _, few) =
+    let pages = pages_within given.pages_value settings.pages has.1 in (pages.0, pages.1, few)
+within_limits (run settings schema clients) given (has, _, _, few) =
+    let pages = pages_within given.pages_value settings.pages has.1 in (pages.0, pages.1, few)
+within_limits (audit schema report) given asks = tt
+within_limits (check schema) given asks = tt
+within_limits (job seed with_threads) given asks = tt
+
+-- a command line has a word
+pub some_word : (words : List Word) (command : Command) → IsCommandLine words command → words ≡ [] → ⊥
+some_word words command line none = let never : word_of command ∷ line.behind ≡ [] = sym line.begins ∙ none in absurd (omega (arith, ap length never))
 
 same_manager_word : (m n : Manager) → word_of_manager m ≡ word_of_manager n → m ≡ n
 same_manager_word Mursiw Mursiw e = refl

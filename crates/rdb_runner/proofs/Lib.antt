@@ -6,8 +6,6 @@ pub mod CheckLaws
 pub mod CheckLemmas
 pub mod CommandLemmas
 pub mod CommandLineMeaning
-pub mod CommandLineParts
-pub mod CommandLineReading
 pub mod EndingLemmas
 pub mod JobLemmas
 pub mod JobParts

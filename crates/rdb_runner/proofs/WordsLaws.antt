@@ -4,7 +4,8 @@ use Rattle.rdb_runner.specs.declared.status.Status.{Status}
 use Rattle.rdb_runner.specs.declared.status.Status.TheVariants.{Done, Usage, Unreadable, BadSchema, BadScript, BadSchedule, CutOff, NoMemory, BadReport, NotBuilt}
 use Rattle.rdb_runner.specs.Command.{IsNoCommandLine, usage_line, Task, replays, audits, checks, unbuilt, task_of, SeesNothing, UsageOwes, UnbuiltOwes, CommandOwes, TaskEnds, WordsEnd, IsCutShort, AsksFor, AsksToAudit, AsksToCheck, AsksForFiles, AsksForOther, AsksInOrder}
 use Rattle.rdb_runner.specs.AuditFile.{audit_names, IsAudited, IsBadReport, HasLegalReport, HasBadReport}
-use Rattle.rdb_runner.specs.CommandLine.{Word, Command, IsCommandLine}
+use Rattle.rdb_words.specs.Grammar.{Word}
+use Rattle.rdb_runner.specs.CommandLine.{Command, IsCommandLine}
 use Rattle.rdb_runner.specs.Ending.{Told, Ends}
 use Rattle.rdb_runner.specs.Parts.{IsBadScript, IsBadSchedule, HasBadScript, HasBadSchedule}
 use Rattle.rdb_runner.specs.PlainPromise.{IsNotBuilt, ArePlain}

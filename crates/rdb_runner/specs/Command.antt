@@ -3,7 +3,8 @@ use Rattle.std.specs.Prelude.{◌≡◌, ℕ, ◌⊎◌, List, [], ◌∷◌, �
 use Rattle.rdb_runner.specs.declared.status.Status.{Status}
 use Rattle.rdb_runner.specs.declared.status.Status.TheVariants.{Usage, NoMemory, NotBuilt}
 use Rattle.rdb_runner.specs.AuditFile.{audit_names}
-use Rattle.rdb_runner.specs.CommandLine.{Word, Command, replay, run, audit, check, job, IsCommandLine, word_of}
+use Rattle.rdb_words.specs.Grammar.{Word}
+use Rattle.rdb_runner.specs.CommandLine.{Command, replay, run, audit, check, job, IsCommandLine, word_of}
 use Rattle.rdb_runner.specs.Ending.{Ends, Never}
 use Rattle.rdb_runner.specs.Parts.{names_of}
 use Rattle.rdb_runner.specs.Promise.{ReplayOwes, AuditOwes, CheckOwes}

@@ -1,13 +1,17 @@
-//! The command line: what its words mean, and the reader of it.
-//! It touches nothing but the words that it is lent.
+//! The command line: what its words mean, the test of them by the definition, and the reading with clap of those that pass.
+//! It touches nothing but the words that it is lent, and the memory that clap takes.
 
-ghost use Rattle.std.specs.Prelude.{◌≡◌, ◌↔◌, ℕ, ◌+◌, ◌^◌, ◌<◌, ◌≤◌, List, [], ◌++◌, map, length, IfSome, IfNone, IsSome, IsTrue, SomeIff, codes, string_bytes};
+ghost use Rattle.std.specs.Prelude.{◌≡◌, ◌↔◌, ℕ, ◌^◌, ◌<◌, ◌≤◌, List, map, length, IfOk, IfSome, IfNone, IsTrue, SomeIff, codes, string_bytes};
 ghost use Rattle.std.specs.Str.Parse.{IsNumeral, digits_value};
-ghost use Rattle.rdb_runner.specs.CommandLine.{Word, Command, Part, Given, BeginsWithOption, BeginsWith, IsManagerOf, ArePagesOf, text_of, Gives, HasSettings, HasNoSettings, AsksBy, IsCommandLine, IsWithinLimits, command_of, part_of, given_of, with_names, Adds};
+ghost use Rattle.rdb_words.specs.Grammar.{Word, Gives, text_of, given_of};
+ghost use Rattle.rdb_runner.specs.CommandLine.{Command, IsManagerOf, ArePagesOf, HasSettings, HasNoSettings, AsksBy, IsCommandLine, IsWithinLimits, command_of};
 
 use arrayvec::ArrayVec;
 use rdb_base::identity::Manager;
+use rdb_base::list::NoMemory;
 use rdb_literals::decimal::number;
+use rdb_words::{Arguments, arguments_in};
+use std::alloc::Global;
 
 /// The most clients of one replay or run.
 pub const MAX_CLIENTS: usize = 16;
@@ -17,9 +21,6 @@ pub const DEFAULT_PAGES: u32 = 1_024;
 
 /// The most pages of a region.
 pub const MAX_PAGES: u32 = 16_384;
-
-/// The most names on a command line: a schema, a schedule and the clients.
-const MAX_NAMES: usize = 18;
 
 /// The settings of a region.
 #[derive(Clone, Copy, Debug, PartialEq, Eq)]
@@ -64,24 +65,6 @@ pub enum CommandLine<'a> {
     },
 }
 
-/// An option with its value, or a name.
-#[derive(Clone, Copy)]
-enum Piece<'a> {
-    Manager(&'a str),
-    Pages(&'a str),
-    Threads,
-    Name(&'a str),
-}
-
-/// The options and names behind a command.
-#[derive(Drop)]
-struct Arguments<'a> {
-    manager: Option<&'a str>,
-    pages: Option<&'a str>,
-    threads: bool,
-    names: ArrayVec<&'a str, MAX_NAMES>,
-}
-
 /// The manager that a value of `--manager` names, MVCC where it isn't given.
 fn chosen_manager(value: Option<&str>) -> Option<Manager>
     ensures some { IfSome result (IsManagerOf (text_of value.entry)) }
@@ -111,203 +94,105 @@ fn chosen_pages(value: Option<&str>) -> Option<u32>
     (1..=MAX_PAGES).contains(&pages).then_some(pages)
 }
 
-/// The value of this option, where the words begin with both, and the words behind them.
-fn option_value<'a>(option: &str, words: &'a [String]) -> Option<(&'a str, &'a [String])>
-    ensures some { IfSome result (λ found.
-        BeginsWithOption option.now found.0.now (map string_bytes words.now) (map string_bytes found.1.now)) }
-    ensures none { IfNone result ((value : Word) (rest : List Word) →
-        BeginsWithOption option.now value (map string_bytes words.now) rest → ⊥) }
+/// The settings, by default where the words don't name them.
+fn chosen_settings(arguments: &Arguments<'_>) -> Option<Settings>
+    ensures some { IfSome result (λ settings. HasSettings settings (given_of arguments.now)) }
+    ensures none { IfNone result ((settings : Settings) → HasSettings settings (given_of arguments.now) → ⊥) }
 {
-    let (word, rest) = words.split_first()?;
-    let tail = word.as_str().strip_prefix(option)?;
-    if tail.is_empty() {
-        let (value, rest) = rest.split_first()?;
-        return Some((value.as_str(), rest));
-    }
-    let value = tail.strip_prefix('=')?;
-    Some((value, rest))
+    let manager = chosen_manager(arguments.manager)?;
+    let pages = chosen_pages(arguments.pages)?;
+    Some(Settings { manager, pages })
 }
 
-/// The part that the words begin with, and the words behind it.
-fn first_piece<'a>(words: &'a [String]) -> Option<(Piece<'a>, &'a [String])>
-    ensures some { IfSome result (λ found.
-        BeginsWith (part_of found.0) (map string_bytes words.now) (map string_bytes found.1.now)) }
-    ensures none { IfNone result ((part : Part) (rest : List Word) →
-        BeginsWith part (map string_bytes words.now) rest → ⊥) }
+/// Whether no option for a region is given.
+fn is_without_settings(arguments: &Arguments<'_>) -> bool
+    ensures { IsTrue result ↔ HasNoSettings (given_of arguments.now) }
 {
-    if let Some((value, rest)) = option_value("--manager", words) {
-        return Some((Piece::Manager(value), rest));
-    }
-    if let Some((value, rest)) = option_value("--pages", words) {
-        return Some((Piece::Pages(value), rest));
-    }
-    let (first, rest) = words.split_first()?;
-    let word = first.as_str();
-    if word == "--threads" {
-        Some((Piece::Threads, rest))
-    } else if word.starts_with('-') {
-        None
-    } else {
-        Some((Piece::Name(word), rest))
-    }
+    arguments.manager.is_none() && arguments.pages.is_none()
 }
 
-impl<'a> Arguments<'a> {
-    /// Adds what a part gives. An option that is there already is refused, and so is a 19th name.
-    fn add(&mut self, piece: Piece<'a>) -> Option<()>
-        ensures some { IsSome result → Adds (part_of piece.entry) (given_of self.old) (given_of self.new) }
-        ensures none { IfNone result ((new : Given) →
-            Adds (part_of piece.entry) (given_of self.old) new → length new.names ≤ MAX_NAMES → ⊥) }
-    {
-        match piece {
-            Piece::Manager(value) if self.manager.is_none() => self.manager = Some(value),
-            Piece::Pages(value) if self.pages.is_none() => self.pages = Some(value),
-            Piece::Threads if !self.threads => self.threads = true,
-            Piece::Name(name) if !self.names.is_full() => self.names.push(name),
-            _ => return None,
-        }
-        Some(())
-    }
-
-    /// Adds these names, of any form, where there is room for all of them.
-    fn add_names(&mut self, words: &'a [String]) -> Option<()>
-        ensures some { IsSome result → given_of self.new ≡ with_names (given_of self.old) (map string_bytes words.now) }
-        ensures none { IfNone result (MAX_NAMES < length self.old.names.items + length words.now) }
-    {
-        for word in words {
-            if self.names.is_full() {
-                return None;
-            }
-            self.names.push(word.as_str());
-        }
-        Some(())
-    }
-
-    /// The settings, by default where the words don't name them.
-    fn settings(&self) -> Option<Settings>
-        ensures some { IfSome result (λ settings. HasSettings settings (given_of self.now)) }
-        ensures none { IfNone result ((settings : Settings) → HasSettings settings (given_of self.now) → ⊥) }
-    {
-        let manager = chosen_manager(self.manager)?;
-        let pages = chosen_pages(self.pages)?;
-        Some(Settings { manager, pages })
-    }
-
-    /// Whether no option for a region is given.
-    fn is_without_settings(&self) -> bool
-        ensures { IsTrue result ↔ HasNoSettings (given_of self.now) }
-    {
-        self.manager.is_none() && self.pages.is_none()
-    }
-
-    /// A replay: a schema, a schedule and clients.
-    fn replay(&self) -> Option<CommandLine<'a>>
-        ensures some { IfSome result (λ line. AsksBy (codes "replay") (given_of self.now) (command_of line)) }
-        ensures none { IfNone result ((command : Command) → AsksBy (codes "replay") (given_of self.now) command → ⊥) }
-    {
-        let settings = self.settings()?;
-        if self.threads {
-            return None;
-        }
-        let [schema, schedule, clients @ ..] = self.names.as_slice() else {
-            return None;
-        };
-        let clients = Clients::try_from(clients).ok()?;
-        Some(CommandLine::Replay {
-            settings,
-            schema,
-            schedule,
-            clients,
-        })
-    }
-
-    /// A run: a schema and clients.
-    fn run(&self) -> Option<CommandLine<'a>>
-        ensures some { IfSome result (λ line. AsksBy (codes "run") (given_of self.now) (command_of line)) }
-        ensures none { IfNone result ((command : Command) → AsksBy (codes "run") (given_of self.now) command → ⊥) }
-    {
-        let settings = self.settings()?;
-        if self.threads {
-            return None;
-        }
-        let [schema, clients @ ..] = self.names.as_slice() else {
-            return None;
-        };
-        let clients = Clients::try_from(clients).ok()?;
-        Some(CommandLine::Run {
-            settings,
-            schema,
-            clients,
-        })
-    }
-
-    /// An audit: a schema and a report.
-    fn audit(&self) -> Option<CommandLine<'a>>
-        ensures some { IfSome result (λ line. AsksBy (codes "audit") (given_of self.now) (command_of line)) }
-        ensures none { IfNone result ((command : Command) → AsksBy (codes "audit") (given_of self.now) command → ⊥) }
-    {
-        match self.names.as_slice() {
-            [schema, report] if self.is_without_settings() && !self.threads => {
-                Some(CommandLine::Audit { schema, report })
-            }
-            _ => None,
-        }
-    }
-
-    /// A check: a schema.
-    fn check(&self) -> Option<CommandLine<'a>>
-        ensures some { IfSome result (λ line. AsksBy (codes "check") (given_of self.now) (command_of line)) }
-        ensures none { IfNone result ((command : Command) → AsksBy (codes "check") (given_of self.now) command → ⊥) }
-    {
-        match self.names.as_slice() {
-            [schema] if self.is_without_settings() && !self.threads => {
-                Some(CommandLine::Check { schema })
-            }
-            _ => None,
-        }
-    }
-
-    /// A generated job: its seed.
-    fn job(&self) -> Option<CommandLine<'a>>
-        ensures some { IfSome result (λ line. AsksBy (codes "job") (given_of self.now) (command_of line)) }
-        ensures none { IfNone result ((command : Command) → AsksBy (codes "job") (given_of self.now) command → ⊥) }
-    {
-        match self.names.as_slice() {
-            [seed] if self.is_without_settings() => {
-                let seed = number(seed)?;
-                Some(CommandLine::Job {
-                    seed,
-                    threads: self.threads,
-                })
-            }
-            _ => None,
-        }
-    }
-}
-
-/// The options and names behind a command, up to 18 names.
-fn arguments_in(words: &[String]) -> Option<Arguments<'_>>
-    ensures some { IfSome result (λ arguments. Gives (map string_bytes words.now) (given_of arguments)) }
-    ensures none { IfNone result ((given : Given) →
-        Gives (map string_bytes words.now) given → length given.names ≤ MAX_NAMES → ⊥) }
+/// A replay: a schema, a schedule and clients.
+fn replay<'a>(arguments: &Arguments<'a>) -> Option<CommandLine<'a>>
+    ensures some { IfSome result (λ line. AsksBy (codes "replay") (given_of arguments.now) (command_of line)) }
+    ensures none { IfNone result ((command : Command) → AsksBy (codes "replay") (given_of arguments.now) command → ⊥) }
 {
-    let mut arguments = Arguments {
-        manager: None,
-        pages: None,
-        threads: false,
-        names: ArrayVec::new(),
+    let settings = chosen_settings(arguments)?;
+    if arguments.threads {
+        return None;
+    }
+    let [schema, schedule, clients @ ..] = arguments.names.as_slice() else {
+        return None;
     };
-    let mut rest = words;
-    while let Some((first, behind)) = rest.split_first() {
-        if first.as_str() == "--" {
-            arguments.add_names(behind)?;
-            return Some(arguments);
-        }
-        let (piece, after) = first_piece(rest)?;
-        arguments.add(piece)?;
-        rest = after;
+    let clients = Clients::try_from(clients).ok()?;
+    Some(CommandLine::Replay {
+        settings,
+        schema,
+        schedule,
+        clients,
+    })
+}
+
+/// A run: a schema and clients.
+fn run<'a>(arguments: &Arguments<'a>) -> Option<CommandLine<'a>>
+    ensures some { IfSome result (λ line. AsksBy (codes "run") (given_of arguments.now) (command_of line)) }
+    ensures none { IfNone result ((command : Command) → AsksBy (codes "run") (given_of arguments.now) command → ⊥) }
+{
+    let settings = chosen_settings(arguments)?;
+    if arguments.threads {
+        return None;
     }
-    Some(arguments)
+    let [schema, clients @ ..] = arguments.names.as_slice() else {
+        return None;
+    };
+    let clients = Clients::try_from(clients).ok()?;
+    Some(CommandLine::Run {
+        settings,
+        schema,
+        clients,
+    })
+}
+
+/// An audit: a schema and a report.
+fn audit<'a>(arguments: &Arguments<'a>) -> Option<CommandLine<'a>>
+    ensures some { IfSome result (λ line. AsksBy (codes "audit") (given_of arguments.now) (command_of line)) }
+    ensures none { IfNone result ((command : Command) → AsksBy (codes "audit") (given_of arguments.now) command → ⊥) }
+{
+    match arguments.names.as_slice() {
+        [schema, report] if is_without_settings(arguments) && !arguments.threads => {
+            Some(CommandLine::Audit { schema, report })
+        }
+        _ => None,
+    }
+}
+
+/// A check: a schema.
+fn check<'a>(arguments: &Arguments<'a>) -> Option<CommandLine<'a>>
+    ensures some { IfSome result (λ line. AsksBy (codes "check") (given_of arguments.now) (command_of line)) }
+    ensures none { IfNone result ((command : Command) → AsksBy (codes "check") (given_of arguments.now) command → ⊥) }
+{
+    match arguments.names.as_slice() {
+        [schema] if is_without_settings(arguments) && !arguments.threads => {
+            Some(CommandLine::Check { schema })
+        }
+        _ => None,
+    }
+}
+
+/// A generated job: its seed.
+fn job<'a>(arguments: &Arguments<'a>) -> Option<CommandLine<'a>>
+    ensures some { IfSome result (λ line. AsksBy (codes "job") (given_of arguments.now) (command_of line)) }
+    ensures none { IfNone result ((command : Command) → AsksBy (codes "job") (given_of arguments.now) command → ⊥) }
+{
+    match arguments.names.as_slice() {
+        [seed] if is_without_settings(arguments) => {
+            let seed = number(seed)?;
+            Some(CommandLine::Job {
+                seed,
+                threads: arguments.threads,
+            })
+        }
+        _ => None,
+    }
 }
 
 /// What the command of this word asks for with these arguments.
@@ -316,24 +201,24 @@ fn asked<'a>(word: &str, arguments: &Arguments<'a>) -> Option<CommandLine<'a>>
     ensures none { IfNone result ((command : Command) → AsksBy word.now (given_of arguments.now) command → ⊥) }
 {
     if word == "replay" {
-        arguments.replay()
+        replay(arguments)
     } else if word == "run" {
-        arguments.run()
+        run(arguments)
     } else if word == "audit" {
-        arguments.audit()
+        audit(arguments)
     } else if word == "check" {
-        arguments.check()
+        check(arguments)
     } else if word == "job" {
-        arguments.job()
+        job(arguments)
     } else {
         None
     }
 }
 
-/// Reads the words behind the program's name. `None` comes exactly where they are no command line.
+/// What the words behind the program's name ask for by the definition. `None` comes exactly where they are no command line.
 ///
 /// The names are lent from the words, so nothing is allocated. Takes time linear in the words' bytes.
-pub fn read(words: &[String]) -> Option<CommandLine<'_>>
+pub fn tested(words: &[String]) -> Option<CommandLine<'_>>
     ensures some { IfSome result (λ line. IsCommandLine (map string_bytes words.now) (command_of line)) }
     ensures none { IfNone result ((command : Command) → IsCommandLine (map string_bytes words.now) command → ⊥) }
 
@@ -345,11 +230,29 @@ pub fn read(words: &[String]) -> Option<CommandLine<'_>>
     asked(command.as_str(), &arguments)
 }
 
+/// Reads a command line with clap, as the arguments of one simple command. The only refusal is want of memory, since `tested` says
+/// beforehand that the words are a command line.
+///
+/// The names are lent from the words. Takes time linear in the words' bytes.
+pub fn read<'a>(alloc: Global, words: &'a [String]) -> Result<CommandLine<'a>, NoMemory>
+    requires { (command : Command) × IsCommandLine (map string_bytes words.now) command }
+    ensures meant { IfOk result (λ line. IsCommandLine (map string_bytes words.now) (command_of line)) }
+
+    // This follows from `meant`.
+    ensures limits { IfOk result (λ line. IsWithinLimits (command_of line)) }
+{
+    let Some((command, behind)) = words.split_first() else {
+        unreachable!();
+    };
+    let arguments = rdb_words::read(alloc, behind)?;
+    let Some(line) = asked(command.as_str(), &arguments) else {
+        unreachable!();
+    };
+    Ok(line)
+}
+
 /// The words of a command line ask for one command only.
 pub fn one_command()
     ensures { (words : List Word) (one other : Command) →
         IsCommandLine words one → IsCommandLine words other → one ≡ other }
 {}
-
-#[cfg(test)]
-mod tests;

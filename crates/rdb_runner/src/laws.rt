@@ -4,7 +4,7 @@ ghost use Rattle.std.specs.Prelude.{◌≡◌, ℕ, ◌<◌, List, [], ◌∷◌
 ghost use Rattle.rdb_runner.specs.declared.status.Status.TheVariants.{Done, Usage, Unreadable, BadSchema, BadScript, BadSchedule, CutOff, NoMemory, BadReport, NotBuilt};
 ghost use Rattle.rdb_runner.specs.AuditFile.{audit_names, IsAudited, IsBadReport, HasLegalReport, HasBadReport};
 ghost use Rattle.rdb_runner.specs.Command.{IsNoCommandLine, WordsEnd, AsksFor, AsksToAudit, AsksToCheck, AsksForFiles, AsksInOrder, IsCutShort, SeesNothing, usage_line};
-ghost use Rattle.rdb_runner.specs.CommandLine.{Word};
+ghost use Rattle.rdb_words.specs.Grammar.{Word};
 ghost use Rattle.rdb_runner.specs.Parts.{IsBadScript, IsBadSchedule, HasBadScript, HasBadSchedule};
 ghost use Rattle.rdb_runner.specs.Promise.{IsDone, ReplayEnds, IsInterrupted, AuditEnds, IsAuditCutOff, CheckEnds, IsCheckCutOff};
 ghost use Rattle.rdb_runner.specs.Reading.{Sight, IsUnreadable, HasTooLong, AsksFirst};

@@ -2,12 +2,8 @@
 #![tactic(auto)]
 
 pub mod audit;
-#[cfg(test)]
-mod audit_tests;
 pub mod check;
 pub mod command_line;
-#[cfg(test)]
-mod generated_job_tests;
 mod halt;
 pub mod laws;
 mod part_reading;
@@ -20,5 +16,3 @@ pub mod replay;
 pub mod schema_reading;
 pub mod status;
 mod telling;
-#[cfg(test)]
-mod tests;

@@ -4,7 +4,7 @@
 ghost use Rattle.std.specs.Prelude.{◌≡◌, ◌≢◌, ℕ, List, ◌⊎◌};
 ghost use Rattle.rdb_runner.specs.declared.status.Status.TheVariants.{NotBuilt};
 ghost use Rattle.rdb_runner.specs.Command.{WordsEnd, AsksFor, AsksToAudit, AsksToCheck, AsksForOther};
-ghost use Rattle.rdb_runner.specs.CommandLine.{Word};
+ghost use Rattle.rdb_words.specs.Grammar.{Word};
 ghost use Rattle.rdb_runner.specs.PlainPromise.{IsNotBuilt, ArePlain};
 ghost use Rattle.rdb_runner.specs.Promise.{ReplayEnds};
 ghost use Rattle.rdb_runner.specs.Reading.{Sight};

@@ -1,8 +1,10 @@
 //! The top call: the words of a command line in, the number of a status out. It touches the caller's files and sink alone.
 
-ghost use Rattle.std.specs.Prelude.{◌≡◌, ◌≢◌, ◌≤◌, [], ◌∷◌, map, length, string_bytes, IfOk, IfSome, IfNone};
-ghost use Rattle.rdb_runner.specs.Command.{WordsEnd, CommandEnds, IsBuilt, task_of};
-ghost use Rattle.rdb_runner.specs.CommandLine.{command_of, IsWithinLimits, texts};
+ghost use Rattle.std.specs.Prelude.{◌≡◌, ◌≢◌, ◌≤◌, ◌==◌, [], ◌∷◌, map, length, string_bytes, IfOk, IfSome, IfNone};
+ghost use Rattle.std.specs.Bool.{OnTrue, OnFalse};
+ghost use Rattle.rdb_words.specs.Grammar.{texts};
+ghost use Rattle.rdb_runner.specs.Command.{WordsEnd, CommandEnds, IsBuilt, task_of, unbuilt};
+ghost use Rattle.rdb_runner.specs.CommandLine.{IsCommandLine, IsWithinLimits, command_of};
 ghost use Rattle.rdb_runner.specs.Job.{files_of};
 ghost use Rattle.rdb_runner.specs.Parts.{names_of};
 ghost use Rattle.rdb_runner.specs.Promise.{ReplayEnds};
@@ -114,13 +116,69 @@ fn end_command<F: Files, K: Sink>(
     }
 }
 
+/// Whether there is exactly one client.
+fn is_single(clients: &[&str]) -> bool
+    ensures { result ≡ (length clients.now == 1) }
+{
+    clients.len() == 1
+}
+
+/// Whether a command is built yet.
+fn is_built(line: &CommandLine<'_>) -> bool
+    ensures yes { OnTrue result (IsBuilt (task_of (command_of line.now))) }
+    ensures no { OnFalse result (task_of (command_of line.now) ≡ unbuilt) }
+{
+    match line {
+        CommandLine::Replay { clients, .. } => is_single(clients.as_slice()),
+        CommandLine::Audit { .. } | CommandLine::Check { .. } => true,
+        CommandLine::Run { .. } | CommandLine::Job { .. } => false,
+    }
+}
+
+/// What a command line ends with for whose reading memory is wanting. A command that isn't built says so all the same.
+fn end_unread<F: Files, K: Sink>(
+    alloc: Global,
+    line: &CommandLine<'_>,
+    files: &mut F,
+    out: &mut K,
+) -> u8
+    requires { IsWithinLimits (command_of line.now) }
+    ensures ends { CommandEnds (command_of line.now)
+        (sight_of F.told F.asked F.faults files.old files.new) (ink_of K.written K.faults out.old out.new) result }
+    ensures memory { result ≡ number_of WantOfMemory → IsBuilt (task_of (command_of line.now)) }
+{
+    if is_built(line) {
+        return Status::NoMemory.number();
+    }
+    end_command(alloc, line, files, out)
+}
+
+/// What words end with that pass the definition, which says that they ask for this: they are read with clap.
+fn end_tested<F: Files, K: Sink>(
+    alloc: Global,
+    words: &[String],
+    tested: &CommandLine<'_>,
+    files: &mut F,
+    out: &mut K,
+) -> u8
+    requires meant { IsCommandLine (map string_bytes words.now) (command_of tested.now) }
+    requires limits { IsWithinLimits (command_of tested.now) }
+    ensures { WordsEnd (map string_bytes words.now)
+        (sight_of F.told F.asked F.faults files.old files.new) (ink_of K.written K.faults out.old out.new) result }
+{
+    match command_line::read(alloc, words) {
+        Ok(line) => end_command(alloc, &line, files, out),
+        Err(_) => end_unread(alloc, tested, files, out),
+    }
+}
+
 /// What words end with.
 fn end_words<F: Files, K: Sink>(alloc: Global, words: &[String], files: &mut F, out: &mut K) -> u8
     ensures { WordsEnd (map string_bytes words.now)
         (sight_of F.told F.asked F.faults files.old files.new) (ink_of K.written K.faults out.old out.new) result }
 {
-    match command_line::read(words) {
-        Some(line) => end_command(alloc, &line, files, out),
+    match command_line::tested(words) {
+        Some(tested) => end_tested(alloc, words, &tested, files, out),
         None => answer(out, Status::Usage, b"regiondb: usage\n"),
     }
 }

@@ -1,6 +1,7 @@
 use Rattle.std.proofs.Common.{◌≡◌, [], ◌∷◌, refl, sym, ap, ◌∙◌, subst, length}
 use Rattle.rdb_runner.specs.Command.{CommandEnds, IsBuilt, task_of}
-use Rattle.rdb_runner.specs.CommandLine.{replay, run, job, texts}
+use Rattle.rdb_words.specs.Grammar.{texts}
+use Rattle.rdb_runner.specs.CommandLine.{replay, run, job}
 use Rattle.rdb_runner.specs.Reading.{sight_of}
 use Rattle.rdb_runner.specs.Telling.{ink_of}
 use Rattle.rdb_runner.proofs.CommandLemmas.{unbuilt_ends, unbuilt_is_no_want, not_one_client}

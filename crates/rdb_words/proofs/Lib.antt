@@ -1,0 +1,9 @@
+pub mod Completion
+pub mod Ends
+pub mod Holding
+pub mod OneMeaning
+pub mod Parts
+pub mod Reading
+pub mod Rows
+pub mod Steps
+pub mod Walks
